@@ -12,135 +12,135 @@ use borrow.Author.Tests.{lt-ltb, le-ltb, ltb-false}
 use Rattle.answer.specs.declared.Error.{Error}
 use Rattle.answer.specs.declared.Error.TheVariants.{UnexpectedWord, TooManyTerminals}
 use Rattle.answer.specs.Numbers.{coded}
-use Rattle.answer.specs.Faults.{faultIf, firstFault}
+use Rattle.answer.specs.Faults.{fault_if, first_fault}
 use Rattle.lookahead.specs.declared.Lookahead.{Lookahead}
 use Rattle.lookahead.specs.declared.Lookahead.TheVariants.{One, Two}
 use Rattle.word.specs.Words.{decoded}
 use Rattle.grammar.specs.declared.reading.Sizes.{Sizes}
 use Rattle.grammar.specs.declared.reading.Reading.{Reading}
 use Rattle.grammar.specs.declared.reading.Reading.TheVariants.{Read, Faulty}
-use Rattle.grammar.specs.Encoding.{declared_by, grammarOf}
-use Rattle.grammar.specs.Limits.{maxWords, maxNonterminals, maxTerminals, maxTerminalsOfTwo}
-use Rattle.grammar.specs.Reading.{beginsRule, reading, opened, headed, scan, fresh, isWithin}
+use Rattle.grammar.specs.Encoding.{declared_by, grammar_of}
+use Rattle.grammar.specs.Limits.{max_words, max_nonterminals, max_terminals, max_terminals_of_two}
+use Rattle.grammar.specs.Reading.{begins_rule, reading, opened, headed, scan, fresh, is_within}
 use Rattle.grammar.proofs.WellFormed.{Each, none_in, faulty}
-use Rattle.grammar.proofs.WellRead.{chosen, refused, both, within-limits, heading-begins-none}
+use Rattle.grammar.proofs.WellRead.{chosen, refused, both, within_limits, heading_begins_none}
 use Rattle.admission.specs.declared.Alone.{Alone}
 use Rattle.admission.specs.declared.Alone.TheVariants.{Absent, At}
 use Rattle.admission.proofs.WithoutPositives.{Positives, none_found, found_none}
-use Rattle.admission.specs.Admission.{Fits, aloneFrom, firstAlone, ofHeading, wordFault, twoTokensFault, faultyOr, admission}
+use Rattle.admission.specs.Admission.{Fits, alone_from, first_alone, of_heading, word_fault, two_tokens_fault, faulty_or, admission}
 
-pub no-terminals : (words : List ℕ) → length words ≡ 0 → 0 ≡ (grammarOf words).terminals
-unfolding grammarOf
-no-terminals [] e = refl
-no-terminals (w ∷ ws) e = let z : ◌≡◌ {A = ℕ} 0 1 = cc in absurd (omega arith)
+pub no_terminals : (words : List ℕ) → length words ≡ 0 → 0 ≡ (grammar_of words).terminals
+unfolding grammar_of
+no_terminals [] e = refl
+no_terminals (w ∷ ws) e = let z : ◌≡◌ {A = ℕ} 0 1 = cc in absurd (omega arith)
 
-pub terminals-declared : (words : List ℕ) → 0 < length words → (declared_by (decoded (get_or words 0 0))).terminals ≡ (grammarOf words).terminals
-unfolding grammarOf
-terminals-declared [] h = absurd (omega arith)
-terminals-declared (w ∷ ws) h = refl
+pub terminals_declared : (words : List ℕ) → 0 < length words → (declared_by (decoded (get_or words 0 0))).terminals ≡ (grammar_of words).terminals
+unfolding grammar_of
+terminals_declared [] h = absurd (omega arith)
+terminals_declared (w ∷ ws) h = refl
 
-pub none-alone : (o : Reading) {a : Alone} → a ≡ Absent → o ≡ faultyOr (wordFault o a) o
-none-alone (Read z) e = rw e
-none-alone (Faulty x) e = rw e
+pub none_alone : (o : Reading) {a : Alone} → a ≡ Absent → o ≡ faulty_or (word_fault o a) o
+none_alone (Read z) e = rw e
+none_alone (Faulty x) e = rw e
 
-pub alone-read : {o : Reading} {a : Alone} {z : Sizes} {i : ℕ} → o ≡ Read z → a ≡ At i → Faulty (UnexpectedWord i) ≡ faultyOr (wordFault o a) o
-alone-read e f = rw (e, f)
+pub alone_read : {o : Reading} {a : Alone} {z : Sizes} {i : ℕ} → o ≡ Read z → a ≡ At i → Faulty (UnexpectedWord i) ≡ faulty_or (word_fault o a) o
+alone_read e f = rw (e, f)
 
 module _ {o : Reading} {a : Alone} {x : Error} {i : ℕ} (e : o ≡ Faulty x) (f : a ≡ At i) where
-  pub alone-before : i < (coded x).position → Faulty (UnexpectedWord i) ≡ faultyOr (wordFault o a) o
-  alone-before l = rw (e, f, lt-ltb i (coded x).position l)
+  pub alone_before : i < (coded x).position → Faulty (UnexpectedWord i) ≡ faulty_or (word_fault o a) o
+  alone_before l = rw (e, f, lt-ltb i (coded x).position l)
 
-  pub alone-behind : (coded x).position ≤ i → Faulty x ≡ faultyOr (wordFault o a) o
-  alone-behind l = rw (e, f, le-ltb i (coded x).position l)
+  pub alone_behind : (coded x).position ≤ i → Faulty x ≡ faulty_or (word_fault o a) o
+  alone_behind l = rw (e, f, le-ltb i (coded x).position l)
 
-last-fault : (f : Option Error) (o : Reading) → faultyOr f o ≡ faultyOr (firstFault (f ∷ [])) o
-last-fault none o = refl
-last-fault (some e) o = refl
+last_fault : (f : Option Error) (o : Reading) → faulty_or f o ≡ faulty_or (first_fault (f ∷ [])) o
+last_fault none o = refl
+last_fault (some e) o = refl
 
 module _ (o : Reading) (words : List ℕ) where
-  pub heading-first : ofHeading o ≡ true → o ≡ faultyOr (twoTokensFault o words) o
-  unfolding twoTokensFault
-  heading-first t = go o refl t
+  pub heading_first : of_heading o ≡ true → o ≡ faulty_or (two_tokens_fault o words) o
+  unfolding two_tokens_fault
+  heading_first t = go o refl t
     where
-      go : (p : Reading) → o ≡ p → ofHeading p ≡ true → p ≡ faultyOr (twoTokensFault p words) p
+      go : (p : Reading) → o ≡ p → of_heading p ≡ true → p ≡ faulty_or (two_tokens_fault p words) p
       go (Read z) e h = absurd (false≢true h)
       go (Faulty x) e h = rw h
 
-  pub many-terminals : ofHeading o ≡ false → maxTerminalsOfTwo < (grammarOf words).terminals → Faulty TooManyTerminals ≡ faultyOr (twoTokensFault o words) o
-  unfolding twoTokensFault
-  many-terminals h l = go o h
+  pub many_terminals : of_heading o ≡ false → max_terminals_of_two < (grammar_of words).terminals → Faulty TooManyTerminals ≡ faulty_or (two_tokens_fault o words) o
+  unfolding two_tokens_fault
+  many_terminals h l = go o h
     where
-      go : (p : Reading) → ofHeading p ≡ false → Faulty TooManyTerminals ≡ faultyOr (twoTokensFault p words) p
-      go (Read z) h = rw (lt-ltb maxTerminalsOfTwo (grammarOf words).terminals l)
-      go (Faulty x) h = rw (h, lt-ltb maxTerminalsOfTwo (grammarOf words).terminals l)
+      go : (p : Reading) → of_heading p ≡ false → Faulty TooManyTerminals ≡ faulty_or (two_tokens_fault p words) p
+      go (Read z) h = rw (lt-ltb max_terminals_of_two (grammar_of words).terminals l)
+      go (Faulty x) h = rw (h, lt-ltb max_terminals_of_two (grammar_of words).terminals l)
 
-  pub words-then : ofHeading o ≡ false → (grammarOf words).terminals ≤ maxTerminalsOfTwo
-      → faultyOr (wordFault o (firstAlone words)) o ≡ faultyOr (twoTokensFault o words) o
-  unfolding twoTokensFault
-  words-then h l = go o h
+  pub words_then : of_heading o ≡ false → (grammar_of words).terminals ≤ max_terminals_of_two
+      → faulty_or (word_fault o (first_alone words)) o ≡ faulty_or (two_tokens_fault o words) o
+  unfolding two_tokens_fault
+  words_then h l = go o h
     where
-      go : (p : Reading) → ofHeading p ≡ false → faultyOr (wordFault p (firstAlone words)) p ≡ faultyOr (twoTokensFault p words) p
-      go (Read z) h = rw (le-ltb maxTerminalsOfTwo (grammarOf words).terminals l) (last-fault (wordFault (Read z) (firstAlone words)) (Read z))
-      go (Faulty x) h = rw (h, le-ltb maxTerminalsOfTwo (grammarOf words).terminals l) (last-fault (wordFault (Faulty x) (firstAlone words)) (Faulty x))
+      go : (p : Reading) → of_heading p ≡ false → faulty_or (word_fault p (first_alone words)) p ≡ faulty_or (two_tokens_fault p words) p
+      go (Read z) h = rw (le-ltb max_terminals_of_two (grammar_of words).terminals l) (last_fault (word_fault (Read z) (first_alone words)) (Read z))
+      go (Faulty x) h = rw (h, le-ltb max_terminals_of_two (grammar_of words).terminals l) (last_fault (word_fault (Faulty x) (first_alone words)) (Faulty x))
 
 -- the words behind the heading of a row that is read
 record Headed (w : ℕ) (ws : List ℕ) (z : Sizes) : Type 0 where
-  quiet : beginsRule (decoded w) ≡ false
+  quiet : begins_rule (decoded w) ≡ false
   scanned : scan (fresh (declared_by (decoded w))) 1 ws ≡ Read z
 
-behind-heading : (w : ℕ) (ws : List ℕ) (z : Sizes) → opened (w ∷ ws) ≡ Read z → Headed w ws z
+behind_heading : (w : ℕ) (ws : List ℕ) (z : Sizes) → opened (w ∷ ws) ≡ Read z → Headed w ws z
 unfolding opened headed
-behind-heading w ws z e =
+behind_heading w ws z e =
     let y = declared_by (decoded w) in
-    let b = chosen (isWithin y.nonterminals maxNonterminals && isWithin y.terminals maxTerminals) (scan (fresh y) 1 ws) z e in
-    let c = both (isWithin y.nonterminals maxNonterminals) (isWithin y.terminals maxTerminals) b.0 in
-    record { quiet = heading-begins-none (decoded w) (within-limits y.nonterminals maxNonterminals c.0).some; scanned = b.1 }
+    let b = chosen (is_within y.nonterminals max_nonterminals && is_within y.terminals max_terminals) (scan (fresh y) 1 ws) z e in
+    let c = both (is_within y.nonterminals max_nonterminals) (is_within y.terminals max_terminals) b.0 in
+    record { quiet = heading_begins_none (decoded w) (within_limits y.nonterminals max_nonterminals c.0).some; scanned = b.1 }
 
 -- in a row that is read, however long, none is found exactly when each rule has a positive
-pub none-alone-positives : (words : List ℕ) (z : Sizes) → opened words ≡ Read z → firstAlone words ≡ Absent → Each Positives (grammarOf words).rules
-unfolding grammarOf aloneFrom
-none-alone-positives [] z e n = none_in Positives
-none-alone-positives (w ∷ ws) z e n = let h = behind-heading w ws z e in (none_found (fresh (declared_by (decoded w))) 1 ws z h.scanned (rw h.quiet at n)).0
+pub none_alone_positives : (words : List ℕ) (z : Sizes) → opened words ≡ Read z → first_alone words ≡ Absent → Each Positives (grammar_of words).rules
+unfolding grammar_of alone_from
+none_alone_positives [] z e n = none_in Positives
+none_alone_positives (w ∷ ws) z e n = let h = behind_heading w ws z e in (none_found (fresh (declared_by (decoded w))) 1 ws z h.scanned (rw h.quiet at n)).0
 
-pub positives-none-alone : (words : List ℕ) (z : Sizes) → opened words ≡ Read z → Each Positives (grammarOf words).rules → firstAlone words ≡ Absent
-unfolding grammarOf aloneFrom
-positives-none-alone [] z e r = refl
-positives-none-alone (w ∷ ws) z e r =
-    let h = behind-heading w ws z e in rw h.quiet (found_none (fresh (declared_by (decoded w))) 1 ws z h.scanned r tt)
+pub positives_none_alone : (words : List ℕ) (z : Sizes) → opened words ≡ Read z → Each Positives (grammar_of words).rules → first_alone words ≡ Absent
+unfolding grammar_of alone_from
+positives_none_alone [] z e r = refl
+positives_none_alone (w ∷ ws) z e r =
+    let h = behind_heading w ws z e in rw h.quiet (found_none (fresh (declared_by (decoded w))) 1 ws z h.scanned r tt)
 
-opened-read : (words : List ℕ) (z : Sizes) → reading words ≡ Read z → opened words ≡ Read z
+opened_read : (words : List ℕ) (z : Sizes) → reading words ≡ Read z → opened words ≡ Read z
 unfolding reading
-opened-read words z e = (refused (ltb maxWords (length words)) (opened words) z e).1
+opened_read words z e = (refused (ltb max_words (length words)) (opened words) z e).1
 
-fault-none : (f : Option Error) (o : Reading) (z : Sizes) → faultyOr f o ≡ Read z → (f ≡ none) × (o ≡ Read z)
-fault-none none o z e = (refl, e)
-fault-none (some x) o z e = absurd (faulty x z e)
+fault_none : (f : Option Error) (o : Reading) (z : Sizes) → faulty_or f o ≡ Read z → (f ≡ none) × (o ≡ Read z)
+fault_none none o z e = (refl, e)
+fault_none (some x) o z e = absurd (faulty x z e)
 
 -- with two tokens, where reading finds no fault
-two_none : (words : List ℕ) (z : Sizes) → twoTokensFault (Read z) words ≡ none → ((grammarOf words).terminals ≤ maxTerminalsOfTwo) × (firstAlone words ≡ Absent)
-unfolding twoTokensFault
-two_none words z e = go (ltb maxTerminalsOfTwo (grammarOf words).terminals) refl (firstAlone words) e
+two_none : (words : List ℕ) (z : Sizes) → two_tokens_fault (Read z) words ≡ none → ((grammar_of words).terminals ≤ max_terminals_of_two) × (first_alone words ≡ Absent)
+unfolding two_tokens_fault
+two_none words z e = go (ltb max_terminals_of_two (grammar_of words).terminals) refl (first_alone words) e
   where
-    go : (b : Bool) → ltb maxTerminalsOfTwo (grammarOf words).terminals ≡ b → (a : Alone)
-        → firstFault (none ∷ faultIf b TooManyTerminals ∷ wordFault (Read z) a ∷ []) ≡ none → ((grammarOf words).terminals ≤ maxTerminalsOfTwo) × (a ≡ Absent)
+    go : (b : Bool) → ltb max_terminals_of_two (grammar_of words).terminals ≡ b → (a : Alone)
+        → first_fault (none ∷ fault_if b TooManyTerminals ∷ word_fault (Read z) a ∷ []) ≡ none → ((grammar_of words).terminals ≤ max_terminals_of_two) × (a ≡ Absent)
     go true l a e = let n : ◌≡◌ {A = ℕ} 0 1 = cc in absurd (omega arith)
-    go false l Absent e = (ltb-false maxTerminalsOfTwo (grammarOf words).terminals l, refl)
+    go false l Absent e = (ltb-false max_terminals_of_two (grammar_of words).terminals l, refl)
     go false l (At i) e = let n : ◌≡◌ {A = ℕ} 0 1 = cc in absurd (omega arith)
 
-none-two : (words : List ℕ) (z : Sizes) → (grammarOf words).terminals ≤ maxTerminalsOfTwo → firstAlone words ≡ Absent → twoTokensFault (Read z) words ≡ none
-unfolding twoTokensFault
-none-two words z l a = rw (le-ltb maxTerminalsOfTwo (grammarOf words).terminals l, a)
+none_two : (words : List ℕ) (z : Sizes) → (grammar_of words).terminals ≤ max_terminals_of_two → first_alone words ≡ Absent → two_tokens_fault (Read z) words ≡ none
+unfolding two_tokens_fault
+none_two words z l a = rw (le-ltb max_terminals_of_two (grammar_of words).terminals l, a)
 
 -- just those that are read and fit are admitted
-pub admitted : (k : Lookahead) (words : List ℕ) (z : Sizes) → (admission k words ≡ Read z) ↔ ((reading words ≡ Read z) × Fits k (grammarOf words))
+pub admitted : (k : Lookahead) (words : List ℕ) (z : Sizes) → (admission k words ≡ Read z) ↔ ((reading words ≡ Read z) × Fits k (grammar_of words))
 admitted One words z = (λ e. (e, tt), λ f. f.0)
 admitted Two words z = (to, from)
   where
-    to : admission Two words ≡ Read z → (reading words ≡ Read z) × Fits Two (grammarOf words)
+    to : admission Two words ≡ Read z → (reading words ≡ Read z) × Fits Two (grammar_of words)
     to e =
-        let f = fault-none (twoTokensFault (reading words) words) (reading words) z e in
+        let f = fault_none (two_tokens_fault (reading words) words) (reading words) z e in
         let n = two_none words z (rw f.1 at f.0) in
-        (f.1, (n.0, none-alone-positives words z (opened-read words z f.1) n.1))
+        (f.1, (n.0, none_alone_positives words z (opened_read words z f.1) n.1))
 
-    from : (reading words ≡ Read z) × Fits Two (grammarOf words) → admission Two words ≡ Read z
-    from (e, f) = rw (e, none-two words z f.0 (positives-none-alone words z (opened-read words z e) f.1))
+    from : (reading words ≡ Read z) × Fits Two (grammar_of words) → admission Two words ≡ Read z
+    from (e, f) = rw (e, none_two words z f.0 (positives_none_alone words z (opened_read words z e) f.1))

@@ -4,9 +4,9 @@ use Rattle.answer.specs.declared.Error.{Error}
 use Rattle.answer.specs.declared.Error.TheVariants.{Length, Heading, UnexpectedWord, TooManyTerminals}
 use Rattle.grammar.specs.declared.reading.Reading.{Reading}
 use Rattle.grammar.specs.declared.reading.Reading.TheVariants.{Read, Faulty}
-use Rattle.grammar.specs.Limits.{maxWords}
+use Rattle.grammar.specs.Limits.{max_words}
 use Rattle.grammar.specs.Syntax.{Grammar}
-use Rattle.encoding.specs.Encode.{sizesOf, Encodes}
+use Rattle.encoding.specs.Encode.{sizes_of, Encodes}
 use Rattle.encoding.specs.Diagnosis.{FirstFault, WordFault}
 use Rattle.lookahead.specs.declared.Lookahead.{Lookahead}
 use Rattle.admission.specs.Admission.{Fits, admission}
@@ -36,9 +36,9 @@ pub data FaultBy (words : List ℕ) (i : ℕ) : Error → Type 0 where
 
 -- 3, a fault of the first faulty word, or none of them
 pub data DiagnosisBy (k : Lookahead) (words : List ℕ) : Reading → Type 0 where
-  long : maxWords < length words → DiagnosisBy k words (Faulty Length)
-  fault : {i : ℕ} {x : Error} → length words ≤ maxWords → FirstFaultBy k words i → FaultBy words i x → DiagnosisBy k words (Faulty x)
-  encoding : {G : Grammar} → length words ≤ maxWords → Encodes words G → Fits k G → DiagnosisBy k words (Read (sizesOf G))
+  long : max_words < length words → DiagnosisBy k words (Faulty Length)
+  fault : {i : ℕ} {x : Error} → length words ≤ max_words → FirstFaultBy k words i → FaultBy words i x → DiagnosisBy k words (Faulty x)
+  encoding : {G : Grammar} → length words ≤ max_words → Encodes words G → Fits k G → DiagnosisBy k words (Read (sizes_of G))
 
 -- what is admitted is what there is to tell and nothing else
 abbrev pub Diagnosed : Lookahead → List ℕ → Type 0

@@ -1,7 +1,7 @@
 // Which encoded grammars a lookahead takes: reading, and the faults that stand beside it with two tokens of lookahead.
 ghost use Rattle.std.specs.Prelude.{◌≡◌, ◌&&◌};
-ghost use Rattle.grammar.specs.Encoding.{grammarOf};
-ghost use Rattle.admission.specs.Admission.{beginsNegative, firstAlone, ofHeading, wordFault, faultyOr, twoTokensFault, admission};
+ghost use Rattle.grammar.specs.Encoding.{grammar_of};
+ghost use Rattle.admission.specs.Admission.{begins_negative, first_alone, of_heading, word_fault, faulty_or, two_tokens_fault, admission};
 
 use answer::{Error, code, position};
 use grammar::limits::TERMINALS_OF_TWO;
@@ -22,7 +22,7 @@ pub(crate) enum Alone {
 }
 
 pub fn begins_negative(word: Word) -> bool
-    ensures { result ≡ beginsNegative word }
+    ensures { result ≡ begins_negative word }
 {
     match word {
         Word::Negative => true,
@@ -40,14 +40,14 @@ pub fn begins_negative(word: Word) -> bool
 
 // A negative begins right behind the begin of a rule.
 fn stands_alone(opened: bool, word: Word) -> bool
-    ensures { result ≡ (opened && beginsNegative word) }
+    ensures { result ≡ (opened && begins_negative word) }
 {
     if opened { begins_negative(word) } else { false }
 }
 
 // The first rule without positives.
 fn first_alone(words: &[u32]) -> Alone
-    ensures { result ≡ firstAlone words.now }
+    ensures { result ≡ first_alone words.now }
 {
     let mut opened = false;
     let mut at = 0;
@@ -63,7 +63,7 @@ fn first_alone(words: &[u32]) -> Alone
 }
 
 fn declared_terminals(words: &[u32]) -> u32
-    ensures { result ≡ (grammarOf words.now).terminals }
+    ensures { result ≡ (grammar_of words.now).terminals }
 {
     if words.len() == 0 {
         return 0;
@@ -73,7 +73,7 @@ fn declared_terminals(words: &[u32]) -> u32
 
 // A rule without positives is reported where no word before it is faulty.
 fn with_alone(outcome: Reading, alone: Alone) -> Reading
-    ensures { result ≡ faultyOr (wordFault outcome alone) outcome }
+    ensures { result ≡ faulty_or (word_fault outcome alone) outcome }
 {
     match alone {
         Alone::Absent => outcome,
@@ -91,7 +91,7 @@ fn with_alone(outcome: Reading, alone: Alone) -> Reading
 }
 
 fn of_heading(outcome: Reading) -> bool
-    ensures { result ≡ ofHeading outcome }
+    ensures { result ≡ of_heading outcome }
 {
     match outcome {
         Reading::Read(_) => false,
@@ -101,7 +101,7 @@ fn of_heading(outcome: Reading) -> bool
 
 // With two tokens of lookahead, behind the length and the heading.
 fn admit_two(words: &[u32], outcome: Reading) -> Reading
-    ensures { result ≡ faultyOr (twoTokensFault outcome words.now) outcome }
+    ensures { result ≡ faulty_or (two_tokens_fault outcome words.now) outcome }
 {
     if of_heading(outcome) {
         return outcome;

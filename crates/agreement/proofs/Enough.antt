@@ -8,18 +8,18 @@ use native.Mathlib.Omega.{arith}
 use lib.ListN.{take}
 use Rattle.grammar.specs.Syntax.{Grammar}
 use Rattle.semantics.specs.Families.{Clash}
-use Rattle.semantics.specs.contracts.Families.{EveryEnds}
+use Rattle.semantics.specs.inner.Families.{EveryEnds}
 use Rattle.semantics.specs.FirstFollow.{First, Follow, Entry}
 use Rattle.semantics.specs.Claims.{clashes}
 use Rattle.semantics.specs.Predictive.{Predictive}
-use Rattle.base.proofs.LookaheadStrings.{cut-none}
-use Rattle.semantics.proofs.families.Claims.{clashes-elim, clashes-make, everyEnds-elim, everyEnds-make}
+use Rattle.base.proofs.LookaheadStrings.{cut_none}
+use Rattle.semantics.proofs.families.Claims.{clashes_elim, clashes_make, every_ends_elim, every_ends_make}
 use Rattle.agreement.specs.Widening.{Narrows}
 use Rattle.agreement.proofs.Narrowing.{narrows}
 
-none-listed : (l : List Entry) → ((e : Entry) → Memᴰ e l → ⊥) → l ≡ []
-none-listed [] h = refl
-none-listed (e ∷ l) h = absurd (h e (Memᴰ.head refl))
+none_listed : (l : List Entry) → ((e : Entry) → Memᴰ e l → ⊥) → l ≡ []
+none_listed [] h = refl
+none_listed (e ∷ l) h = absurd (h e (Memᴰ.head refl))
 
 pub enough : (G : Grammar) (j k : ℕ) → j ≤ k → Predictive G j → Predictive G k
 enough G j k shorter p = record {
@@ -27,8 +27,8 @@ enough G j k shorter p = record {
   terminals = p.terminals;
   start = p.start;
   unrecursive = p.unrecursive;
-  clashless = none-listed (clashes G k) (λ e m. no-clash e.0 e.1 (clashes-elim G k e.0 e.1 m));
-  ends = everyEnds-make G k ends;
+  clashless = none_listed (clashes G k) (λ e m. no_clash e.0 e.1 (clashes_elim G k e.0 e.1 m));
+  ends = every_ends_make G k ends;
 }
   where
     cut : Narrows G j k
@@ -36,9 +36,9 @@ enough G j k shorter p = record {
 
     ends : EveryEnds G k (Follow G k)
     ends r m alone =
-        let e = everyEnds-elim G j p.ends r m alone in
-        (omega (arith, e.0), λ y f. (cut-none j y [] e.0 (ap (take j) (append-nil y) ∙ e.1 (take j y) (cut.follow r.head y f))).0)
+        let e = every_ends_elim G j p.ends r m alone in
+        (omega (arith, e.0), λ y f. (cut_none j y [] e.0 (ap (take j) (append-nil y) ∙ e.1 (take j y) (cut.follow r.head y f))).0)
 
-    no-clash : (A : ℕ) (x : List ℕ) → Clash G k (First G k) (Follow G k) A x → ⊥
-    no-clash A x (inl o) = Memᴰ.not-nil (rw p.clashless at (clashes-make G j A (take j x) (inl (cut.overlap A x o))))
-    no-clash A x (inr (o, _)) = o.more ((ends o.rule o.listed o.alone).1 o.behind (rw o.heads o.follows))
+    no_clash : (A : ℕ) (x : List ℕ) → Clash G k (First G k) (Follow G k) A x → ⊥
+    no_clash A x (inl o) = Memᴰ.not-nil (rw p.clashless at (clashes_make G j A (take j x) (inl (cut.overlap A x o))))
+    no_clash A x (inr (o, _)) = o.more ((ends o.rule o.listed o.alone).1 o.behind (rw o.heads o.follows))

@@ -2,7 +2,7 @@
 use Rattle.std.specs.Prelude.{◌≡◌, List, ℕ, ◌≤◌, length}
 use Rattle.answer.specs.Numbers.{numbers}
 use Rattle.answer.specs.declared.Answer.{Answer}
-use Rattle.grammar.specs.Limits.{maxTabularTokens, maxSpanWords}
+use Rattle.grammar.specs.Limits.{max_tabular_tokens, max_span_words}
 use Rattle.grammar.specs.Syntax.{Grammar}
 use Rattle.lookahead.specs.declared.Lookahead.{Lookahead}
 use Rattle.recognizer_promises.specs.Properties.{Room, Judgeable, Recognizes, Judges}
@@ -18,7 +18,7 @@ SameVerdict =
 -- tabular judge, and the lent memories are enough
 abbrev pub SameAsTabular : Type 0
 SameAsTabular =
-    (k : Lookahead) (words input : List ℕ) → Judgeable k words input → length input ≤ maxTabularTokens
+    (k : Lookahead) (words input : List ℕ) → Judgeable k words input → length input ≤ max_tabular_tokens
     → (table memo table' memo' : List ℕ) (d : Answer) → Room k table memo → Judges k words input table memo d table' memo'
-    → (spans spans' : List ℕ) (r : Answer) → maxSpanWords ≤ length spans → TabularJudges words input spans r spans'
+    → (spans spans' : List ℕ) (r : Answer) → max_span_words ≤ length spans → TabularJudges words input spans r spans'
     → (numbers d).verdict ≡ (numbers r).verdict

@@ -7,7 +7,7 @@ use Rattle.grammar.specs.Syntax.{Grammar}
 use Rattle.lookahead.specs.declared.Lookahead.{Lookahead}
 use Rattle.semantics.specs.Families.{Claims, Overlap}
 use Rattle.semantics.specs.FirstFollow.{First, Follow}
-use Rattle.recognizer_promises.specs.Answers.{checkFault, judgeFault}
+use Rattle.recognizer_promises.specs.Answers.{check_fault, judge_fault}
 
 -- what k tokens tell, cut to j tokens, j tokens tell too: of the sets, of what a rule claims, and so of the entries that two rules claim
 pub record Narrows (G : Grammar) (j k : ℕ) : Type 0 where
@@ -22,5 +22,5 @@ NoConflict e = (coded e).code ≡ 9 → ⊥
 
 -- with a lookahead the words are never refused 9, whatever memory is lent and whatever is judged
 pub record NeverConflicts (k : Lookahead) (words : List ℕ) : Type 0 where
-  pub checked : (table : ℕ) (e : Error) → checkFault k table words ≡ some e → NoConflict e
-  pub judged : (table memo : ℕ) (input : List ℕ) (e : Error) → judgeFault k table memo words input ≡ some e → NoConflict e
+  pub checked : (table : ℕ) (e : Error) → check_fault k table words ≡ some e → NoConflict e
+  pub judged : (table memo : ℕ) (input : List ℕ) (e : Error) → judge_fault k table memo words input ≡ some e → NoConflict e

@@ -9,28 +9,28 @@ use Rattle.answer.specs.declared.Answer.TheVariants.{Refused, Passed, Rejected, 
 use Rattle.answer.specs.Numbers.{coded}
 
 -- an error's code, and numbers that are no codes
-abbrev pub answerNumber : Answer → ℕ
-answerNumber (Refused e) = (coded e).code
-answerNumber Passed = 1000
-answerNumber (Rejected c) = 1001
-answerNumber (Accepted c) = 1002
+abbrev pub answer_number : Answer → ℕ
+answer_number (Refused e) = (coded e).code
+answer_number Passed = 1000
+answer_number (Rejected c) = 1001
+answer_number (Accepted c) = 1002
 
-pub answer-number : {a b : Answer} → a ≡ b → answerNumber a ≡ answerNumber b
-answer-number e = ap answerNumber e
+pub answer_number_lem : {a b : Answer} → a ≡ b → answer_number a ≡ answer_number b
+answer_number_lem e = ap answer_number e
 
-abbrev pub faultNumber : Option Error → ℕ
-faultNumber none = 0
-faultNumber (some e) = (coded e).code
+abbrev pub fault_number : Option Error → ℕ
+fault_number none = 0
+fault_number (some e) = (coded e).code
 
-pub fault-number : {f g : Option Error} → f ≡ g → faultNumber f ≡ faultNumber g
-fault-number e = ap faultNumber e
+pub fault_number_lem : {f g : Option Error} → f ≡ g → fault_number f ≡ fault_number g
+fault_number_lem e = ap fault_number e
 
 -- an answer is a refusal or not
-abbrev pub refusalNumber : Answer → ℕ
-refusalNumber (Refused e) = 1
-refusalNumber Passed = 0
-refusalNumber (Rejected c) = 0
-refusalNumber (Accepted c) = 0
+abbrev pub refusal_number : Answer → ℕ
+refusal_number (Refused e) = 1
+refusal_number Passed = 0
+refusal_number (Rejected c) = 0
+refusal_number (Accepted c) = 0
 
-pub refused-ne-passed : {e : Error} → Refused e ≡ Passed → ⊥
-refused-ne-passed q = omega (arith, ap refusalNumber q)
+pub refused_ne_passed : {e : Error} → Refused e ≡ Passed → ⊥
+refused_ne_passed q = omega (arith, ap refusal_number q)

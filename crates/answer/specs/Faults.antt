@@ -7,22 +7,22 @@ use Rattle.answer.specs.declared.Answer.TheVariants.{Refused}
 use Rattle.answer.specs.Numbers.{refused, Numbers, coded, answered}
 
 -- a row: an error where a test holds
-abbrev pub faultIf : Bool → Error → Option Error
-faultIf true e = some e
-faultIf false e = none
+abbrev pub fault_if : Bool → Error → Option Error
+fault_if true e = some e
+fault_if false e = none
 
 -- the first row that holds
-abbrev pub firstFault : List (Option Error) → Option Error
-firstFault [] = none
-firstFault (none ∷ l) = firstFault l
-firstFault (some e ∷ l) = some e
+abbrev pub first_fault : List (Option Error) → Option Error
+first_fault [] = none
+first_fault (none ∷ l) = first_fault l
+first_fault (some e ∷ l) = some e
 
 -- an answer, unless there is a fault
-abbrev pub refusedOr : Option Error → Answer → Answer
-refusedOr (some e) a = Refused e
-refusedOr none a = a
+abbrev pub refused_or : Option Error → Answer → Answer
+refused_or (some e) a = Refused e
+refused_or none a = a
 
 -- and what is reported: of a refusal its code and position, with count and farthest place 0
-abbrev pub toldOr : Option Error → Numbers → Numbers
-toldOr (some e) n = answered refused (coded e).code (coded e).position 0 0
-toldOr none n = n
+abbrev pub told_or : Option Error → Numbers → Numbers
+told_or (some e) n = answered refused (coded e).code (coded e).position 0 0
+told_or none n = n

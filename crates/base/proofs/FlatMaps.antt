@@ -5,15 +5,15 @@ use mathlib.Core.Logic.{inl, inr}
 use mathlib.Core.Path.{refl}
 
 module _ {X Y : Type 0} (f : X → List Y) where
-  pub flatMap-elim : (l : List X) (y : Y) → Memᴰ y (flat_map f l) → (x : X) × Memᴰ x l × Memᴰ y (f x)
+  pub flat_map_elim : (l : List X) (y : Y) → Memᴰ y (flat_map f l) → (x : X) × Memᴰ x l × Memᴰ y (f x)
   unfolding flat_map
-  flatMap-elim [] y m = absurd (Memᴰ.not-nil m)
-  flatMap-elim (x ∷ l) y m = elim (Memᴰ.append_cases (f x) m) [
+  flat_map_elim [] y m = absurd (Memᴰ.not-nil m)
+  flat_map_elim (x ∷ l) y m = elim (Memᴰ.append_cases (f x) m) [
     | inl k ↦ (x, Memᴰ.head refl, k)
-    | inr k ↦ let r = flatMap-elim l y k in (r.0, Memᴰ.tail r.1, r.2)
+    | inr k ↦ let r = flat_map_elim l y k in (r.0, Memᴰ.tail r.1, r.2)
   ]
 
-  pub flatMap-make : (l : List X) (x : X) (y : Y) → Memᴰ x l → Memᴰ y (f x) → Memᴰ y (flat_map f l)
+  pub flat_map_make : (l : List X) (x : X) (y : Y) → Memᴰ x l → Memᴰ y (f x) → Memᴰ y (flat_map f l)
   unfolding flat_map
-  flatMap-make (z ∷ l) x y (Memᴰ.head e) m = Memᴰ.append_left (flat_map f l) (rw e at m)
-  flatMap-make (z ∷ l) x y (Memᴰ.tail k) m = Memᴰ.append_right (f z) (flatMap-make l x y k m)
+  flat_map_make (z ∷ l) x y (Memᴰ.head e) m = Memᴰ.append_left (flat_map f l) (rw e at m)
+  flat_map_make (z ∷ l) x y (Memᴰ.tail k) m = Memᴰ.append_right (f z) (flat_map_make l x y k m)

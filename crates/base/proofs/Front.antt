@@ -10,8 +10,8 @@ use lib.Seq.{take-suc, drop-cons, set_at, append_snoc, length-take-le}
 abbrev pub front : List ℕ → ℕ → List ℕ → List ℕ
 front xs i d = take i xs ++ drop i d
 
-pub front-more : (xs d e : List ℕ) (i : ℕ) → e ≡ front xs i d → i < length xs → i < length d → set e i (get_or xs i 0) ≡ front xs (i + 1) d
-front-more xs d e i is h k =
+pub front_more : (xs d e : List ℕ) (i : ℕ) → e ≡ front xs i d → i < length xs → i < length d → set e i (get_or xs i 0) ≡ front xs (i + 1) d
+front_more xs d e i is h k =
     ap (λ (l : List ℕ). set l i (get_or xs i 0)) is
     ∙ ap (λ (l : List ℕ). set (take i xs ++ l) i (get_or xs i 0)) (drop-cons d i 0 k)
     ∙ set_at (take i xs) (get_or d i 0) (drop (suc i) d) (get_or xs i 0) i (length-take-le i xs (omega arith))

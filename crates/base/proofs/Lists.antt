@@ -6,18 +6,18 @@ use native.Mathlib.Omega.{arith}
 use lib.ListN.{length, get_or, replicate}
 use Rattle.base.specs.Lists.{listed}
 
-pub listed-is : (n : ℕ) (f : ℕ → ℕ) (l : List ℕ) → length l ≡ n → ((i : ℕ) → get_or l i 0 ≡ f i) → l ≡ listed n f
+pub listed_is : (n : ℕ) (f : ℕ → ℕ) (l : List ℕ) → length l ≡ n → ((i : ℕ) → get_or l i 0 ≡ f i) → l ≡ listed n f
 unfolding listed
-listed-is zero f [] e h = refl
-listed-is zero f (x ∷ l) e h = absurd (omega arith)
-listed-is (suc n) f [] e h = absurd (omega arith)
-listed-is (suc n) f (x ∷ l) e h = ap₂ ◌∷◌ (h 0) (listed-is n (λ i. f (suc i)) l (omega arith) (λ i. h (suc i)))
+listed_is zero f [] e h = refl
+listed_is zero f (x ∷ l) e h = absurd (omega arith)
+listed_is (suc n) f [] e h = absurd (omega arith)
+listed_is (suc n) f (x ∷ l) e h = ap₂ ◌∷◌ (h 0) (listed_is n (λ i. f (suc i)) l (omega arith) (λ i. h (suc i)))
 
 -- and such a list has the function's values, and zeros behind them
-pub listed-long : (n : ℕ) (f : ℕ → ℕ) → length (listed n f) ≡ n
+pub listed_long : (n : ℕ) (f : ℕ → ℕ) → length (listed n f) ≡ n
 unfolding listed
-listed-long zero f = refl
-listed-long (suc n) f = ap suc (listed-long n (λ i. f (suc i)))
+listed_long zero f = refl
+listed_long (suc n) f = ap suc (listed_long n (λ i. f (suc i)))
 
 pub listed_at : (n : ℕ) (f : ℕ → ℕ) (i : ℕ) → i < n → get_or (listed n f) i 0 ≡ f i
 unfolding listed
@@ -33,7 +33,7 @@ listed_below (suc n) f m h b zero = b 0
 listed_below (suc n) f m h b (suc i) = listed_below n (λ k. f (suc k)) m h (λ k. b (suc k)) i
 
 -- an array of zeros has zeros alone
-pub getD-zeros : (n i : ℕ) → ◌≡◌ {A = ℕ} (get_or (replicate n 0) i 0) 0
-getD-zeros zero i = refl
-getD-zeros (suc n) zero = refl
-getD-zeros (suc n) (suc i) = getD-zeros n i
+pub get_d_zeros : (n i : ℕ) → ◌≡◌ {A = ℕ} (get_or (replicate n 0) i 0) 0
+get_d_zeros zero i = refl
+get_d_zeros (suc n) zero = refl
+get_d_zeros (suc n) (suc i) = get_d_zeros n i

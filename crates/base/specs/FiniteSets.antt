@@ -19,13 +19,13 @@ module _ {X : Type 0} where
   distinct same (x ∷ l) = let d = distinct same l in elim (member same d x) [ true ↦ d | false ↦ x ∷ d ]
 
 -- n numbers from a on
-unfoldable pub numbersFrom : ℕ → ℕ → List ℕ
-numbersFrom a zero = []
-numbersFrom a (suc n) = a ∷ numbersFrom (suc a) n
+unfoldable pub numbers_from : ℕ → ℕ → List ℕ
+numbers_from a zero = []
+numbers_from a (suc n) = a ∷ numbers_from (suc a) n
 
 -- the numbers below n
-unfoldable pub numbersBelow : ℕ → List ℕ
-numbersBelow n = numbersFrom 0 n
+unfoldable pub numbers_below : ℕ → List ℕ
+numbers_below n = numbers_from 0 n
 
 -- one of the first list with one of the second, in every way
 module _ {X Y Z : Type 0} (f : X → Y → Z) where

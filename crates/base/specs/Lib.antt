@@ -4,4 +4,4 @@ pub mod FiniteSets
 pub mod Rounds
 pub mod Strings
 pub mod Lists
-pub mod contracts
+pub mod inner

@@ -13,20 +13,20 @@ module _ {A : Type 0} where
   all_of p (x ∷ xs) = p x && all_of p xs
 
 -- some number below n passes
-unfoldable pub anyBelow : ℕ → (ℕ → Bool) → Bool
-anyBelow zero p = false
-anyBelow (suc n) p = p n || anyBelow n p
+unfoldable pub any_below : ℕ → (ℕ → Bool) → Bool
+any_below zero p = false
+any_below (suc n) p = p n || any_below n p
 
 abbrev pub one : Bool → ℕ
 one true = 1
 one false = 0
 
 -- how many numbers below n pass
-unfoldable pub countBelow : ℕ → (ℕ → Bool) → ℕ
-countBelow zero p = 0
-countBelow (suc n) p = one (p n) + countBelow n p
+unfoldable pub count_below : ℕ → (ℕ → Bool) → ℕ
+count_below zero p = 0
+count_below (suc n) p = one (p n) + count_below n p
 
 -- the lowest number below n that passes
 unfoldable pub lowest : ℕ → (ℕ → Bool) → Option ℕ
 lowest zero p = none
-lowest (suc n) p = choose (anyBelow n p) (lowest n p) (choose (p n) (some n) none)
+lowest (suc n) p = choose (any_below n p) (lowest n p) (choose (p n) (some n) none)

@@ -1,7 +1,7 @@
 -- The lookahead string at a place, and the strings that a lookahead string can be.
 use Rattle.std.specs.Prelude.{List, [], ◌∷◌, ◌++◌, Bool, true, false, ◌&&◌, ℕ, zero, suc, ◌≤◌, length, take, drop, T, eqb, ltb}
 use Rattle.base.specs.Quantifiers.{all_of}
-use Rattle.base.specs.FiniteSets.{numbersBelow, combine}
+use Rattle.base.specs.FiniteSets.{numbers_below, combine}
 
 -- the first k tokens from i on, fewer at the end
 unfoldable pub look : ℕ → List ℕ → ℕ → List ℕ
@@ -18,10 +18,10 @@ Lookahead k n x = (length x ≤ k) × Over n x
 -- every string of at most k terminals below n: by the first terminal in order, and the empty string last (document 01, k = 1: the columns of a row)
 unfoldable pub strings : ℕ → ℕ → List (List ℕ)
 strings zero n = [] ∷ []
-strings (suc k) n = combine (λ a x. a ∷ x) (numbersBelow n) (strings k n) ++ [] ∷ []
+strings (suc k) n = combine (λ a x. a ∷ x) (numbers_below n) (strings k n) ++ [] ∷ []
 
-unfoldable pub sameString : List ℕ → List ℕ → Bool
-sameString [] [] = true
-sameString [] (y ∷ ys) = false
-sameString (x ∷ xs) [] = false
-sameString (x ∷ xs) (y ∷ ys) = eqb x y && sameString xs ys
+unfoldable pub same_string : List ℕ → List ℕ → Bool
+same_string [] [] = true
+same_string [] (y ∷ ys) = false
+same_string (x ∷ xs) [] = false
+same_string (x ∷ xs) (y ∷ ys) = eqb x y && same_string xs ys

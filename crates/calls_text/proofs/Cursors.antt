@@ -5,12 +5,12 @@ use Prim.Native.Nat.{ℕ, ◌+◌, ◌*◌, ◌/◌, ◌%◌, ◌≤◌, ◌<◌
 use native.Mathlib.Nat.{add-zero, mul-add-div_right, mul-add-mod_self_right, div-eq_of_lt, mod-eq_of_lt}
 use native.Mathlib.Omega.{arith}
 use lib.ListN.{get_or}
-use Rattle.grammar.specs.Codes.{uncalledCode}
+use Rattle.grammar.specs.Codes.{uncalled_code}
 use Rattle.text.specs.Writing.{Put, up_to}
-use Rattle.text.proofs.Writing.{put-none, put_next}
+use Rattle.text.proofs.Writing.{put_none, put_next}
 use Rattle.calls_text.specs.declared.cursor.Cursor.{Cursor}
-use Rattle.calls_text.specs.contracts.Cursors.{Stands, EntryPut}
-use Rattle.calls_text.specs.Calls.{callText}
+use Rattle.calls_text.specs.inner.Cursors.{Stands, EntryPut}
+use Rattle.calls_text.specs.Calls.{call_text}
 
 module _ (tokens : ℕ) (c : Cursor) (s : Stands tokens c) where
   row : c.nonterminal ≡ c.index / (tokens + 1)
@@ -27,21 +27,21 @@ module _ (tokens : ℕ) (c : Cursor) (s : Stands tokens c) where
       let rest : c.place % (tokens + 1) ≡ c.place = mod-eq_of_lt (omega (arith, s.in_row)) in
       cc (split, rest, s.stands_at)
 
-pub entry-put : {out out' : List ℕ} {at next : ℕ} (memo : List ℕ) (entry : ℕ) (c : Cursor) → entry ≡ get_or memo c.index uncalledCode
-    → Put out at (callText c.nonterminal c.place entry) out' next → EntryPut out at c memo out' next
-entry-put memo entry c e p tokens s = rw (← row tokens c s, ← column tokens c s, ← e) p
+pub entry_put : {out out' : List ℕ} {at next : ℕ} (memo : List ℕ) (entry : ℕ) (c : Cursor) → entry ≡ get_or memo c.index uncalled_code
+    → Put out at (call_text c.nonterminal c.place entry) out' next → EntryPut out at c memo out' next
+entry_put memo entry c e p tokens s = rw (← row tokens c s, ← column tokens c s, ← e) p
 
 -- A cursor on its way through the entries: it stands, and the calls of the entries before it are put.
 module _ (tokens entries : ℕ) (memo out : List ℕ) (at : ℕ) where
   abbrev text : ℕ → List ℕ
-  text k = callText (k / (tokens + 1)) (k % (tokens + 1)) (get_or memo k uncalledCode)
+  text k = call_text (k / (tokens + 1)) (k % (tokens + 1)) (get_or memo k uncalled_code)
 
   abbrev pub Passing : Cursor → List ℕ → ℕ → Type 0
   Passing c out' next = (c.index ≤ entries) × Stands tokens c × Put out at (up_to c.index text) out' next
 
-  pub passing-first : (c : Cursor) → c.index ≡ 0 → ((t : ℕ) → Stands t c) → Passing c out at
+  pub passing_first : (c : Cursor) → c.index ≡ 0 → ((t : ℕ) → Stands t c) → Passing c out at
   unfolding up_to
-  passing-first c first s = (omega (arith, first), s tokens, rw first (put-none out at))
+  passing_first c first s = (omega (arith, first), s tokens, rw first (put_none out at))
 
   pub passing_step : (c d : Cursor) {m n : List ℕ} {next last : ℕ} → Passing c m next → c.index < entries → EntryPut m next c memo n last
       → d.index ≡ c.index + 1 → Stands tokens d → Passing d n last

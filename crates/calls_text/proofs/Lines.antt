@@ -5,22 +5,22 @@ use Prim.Native.Nat.{ℕ, ◌+◌, ◌*◌, ◌^◌, ◌≤◌, ◌<◌}
 use native.Mathlib.Nat.{mul-le-mul_right}
 use native.Mathlib.Omega.{arith}
 use borrow.Author.Tests.{eq-eqb, ne_eqb}
-use Rattle.grammar.specs.Codes.{uncalledCode}
+use Rattle.grammar.specs.Codes.{uncalled_code}
 use Rattle.text.specs.Ascii.{ascii}
 use Rattle.text.specs.Decimal.{decimal, labelled}
 use Rattle.text.specs.Writing.{Put}
-use Rattle.calls_text.specs.Calls.{endText, callText}
+use Rattle.calls_text.specs.Calls.{end_text, call_text}
 
 -- the entries of a memo table are few enough to be counted
-pub few-entries : (n t : ℕ) → n < 2 ^ 32 → t < 2 ^ 16 → n * (t + 1) < 2 ^ 64
-few-entries n t h k = let l : n ≤ 2 ^ 32 = omega arith in omega (arith, mul-le-mul_right (t + 1) l)
+pub few_entries : (n t : ℕ) → n < 2 ^ 32 → t < 2 ^ 16 → n * (t + 1) < 2 ^ 64
+few_entries n t h k = let l : n ≤ 2 ^ 32 = omega arith in omega (arith, mul-le-mul_right (t + 1) l)
 
 module _ {l m : List ℕ} {at next : ℕ} where
-  pub uncalled-put : (A place entry : ℕ) → entry ≡ uncalledCode → Put l at [] m next → Put l at (callText A place entry) m next
-  unfolding callText
-  uncalled-put A place entry e p = rw (eq-eqb entry uncalledCode e) p
+  pub uncalled_put : (A place entry : ℕ) → entry ≡ uncalled_code → Put l at [] m next → Put l at (call_text A place entry) m next
+  unfolding call_text
+  uncalled_put A place entry e p = rw (eq-eqb entry uncalled_code e) p
 
-  pub call-put : (A place entry : ℕ) → (entry ≡ uncalledCode → ⊥) →
-      Put l at (decimal A ++ labelled " " place ++ endText entry ++ ascii "\n") m next → Put l at (callText A place entry) m next
-  unfolding callText
-  call-put A place entry e p = rw (ne_eqb entry uncalledCode e) p
+  pub call_put : (A place entry : ℕ) → (entry ≡ uncalled_code → ⊥) →
+      Put l at (decimal A ++ labelled " " place ++ end_text entry ++ ascii "\n") m next → Put l at (call_text A place entry) m next
+  unfolding call_text
+  call_put A place entry e p = rw (ne_eqb entry uncalled_code e) p

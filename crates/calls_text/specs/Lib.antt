@@ -1,3 +1,3 @@
 pub mod Calls
 pub mod Room
-pub mod contracts
+pub mod inner

@@ -1,6 +1,6 @@
 // The entry of the memo table that is printed next: its index, and the nonterminal and the place that it is of.
 ghost use Rattle.std.specs.Prelude.{◌≡◌, ℕ, ◌+◌, ◌^◌, ◌<◌};
-ghost use Rattle.calls_text.specs.contracts.Cursors.{Stands};
+ghost use Rattle.calls_text.specs.inner.Cursors.{Stands};
 
 // The nonterminal and the place are carried along, so that no index is divided by the length of a row.
 #[derive(Drop)]

@@ -1,9 +1,9 @@
 // What is printed of the calls that a memo table holds.
 ghost use Rattle.std.specs.Prelude.{◌≡◌, get_or};
-ghost use Rattle.grammar.specs.Codes.{uncalledCode};
+ghost use Rattle.grammar.specs.Codes.{uncalled_code};
 ghost use Rattle.text.specs.Writing.{Put};
-ghost use Rattle.calls_text.specs.contracts.Cursors.{EntryPut};
-ghost use Rattle.calls_text.specs.Calls.{endText, callText, callsText};
+ghost use Rattle.calls_text.specs.inner.Cursors.{EntryPut};
+ghost use Rattle.calls_text.specs.Calls.{end_text, call_text, calls_text};
 
 use cursor::Cursor;
 use grammar::codes::{FAILED, UNCALLED};
@@ -16,19 +16,19 @@ pub const ROOM: usize = 13;
 
 // An entry of the memo table; behind its end nothing was called.
 fn entry_at(memo: &[u16], at: usize) -> u16
-    ensures { result ≡ get_or memo.now at uncalledCode }
+    ensures { result ≡ get_or memo.now at uncalled_code }
 {
     if at < memo.len() { memo[at] } else { UNCALLED }
 }
 
 fn put_end(out: &mut [u8], at: usize, entry: u16) -> usize
-    ensures { Put out.old at (endText entry) out.new result }
+    ensures { Put out.old at (end_text entry) out.new result }
 {
     put_or_dash(out, at, entry as usize, FAILED as usize)
 }
 
 fn put_call(out: &mut [u8], at: usize, nonterminal: usize, place: usize, entry: u16) -> usize
-    ensures { Put out.old at (callText nonterminal place entry) out.new result }
+    ensures { Put out.old at (call_text nonterminal place entry) out.new result }
 {
     if entry == UNCALLED {
         return at;
@@ -53,7 +53,7 @@ fn put_entry(out: &mut [u8], at: usize, cursor: Cursor, memo: &[u16]) -> usize
 }
 
 pub fn put_calls(out: &mut [u8], at: usize, nonterminals: u32, tokens: u16, memo: &[u16]) -> usize
-    ensures { Put out.old at (callsText nonterminals tokens memo.now) out.new result }
+    ensures { Put out.old at (calls_text nonterminals tokens memo.now) out.new result }
 {
     let entries = nonterminals as usize * (tokens as usize + 1);
     let mut next = at;

@@ -3,7 +3,7 @@
 ghost use Rattle.std.specs.Prelude.{◌≡◌};
 ghost use Rattle.std.specs.Int.Bits.{bit_or};
 ghost use Rattle.base.specs.Choice.{choose};
-ghost use Rattle.tabular_promises.specs.contracts.Chart.{placesBefore, addedWord, chartVerdict};
+ghost use Rattle.tabular_promises.specs.inner.Chart.{places_before, added_word, chart_verdict};
 
 use answer::{Answer, Calls};
 use grammar::limits::{NONTERMINALS, TABULAR_PLACES};
@@ -22,7 +22,7 @@ fn joined(there: bool, more: u64, found: u64) -> u64
 
 // The places from which a nonterminal leads to a place of the set, between the span's start and its end.
 pub fn before(chart: &[u64; CHART], nonterminal: u32, set: u64, start: usize, end: usize) -> u64
-    ensures { result ≡ placesBefore chart.now nonterminal set start end }
+    ensures { result ≡ places_before chart.now nonterminal set start end }
 {
     if NONTERMINALS <= nonterminal {
         return 0;
@@ -45,7 +45,7 @@ pub fn before(chart: &[u64; CHART], nonterminal: u32, set: u64, start: usize, en
 
 // Gives a span to those nonterminals of a word that are below a number; it goes from the first to the last of the word.
 pub fn add(chart: &mut [u64; CHART], nonterminals: u32, start: usize, end: usize, word: u32)
-    ensures { chart.new ≡ addedWord chart.old nonterminals start end word }
+    ensures { chart.new ≡ added_word chart.old nonterminals start end word }
 {
     if word == 0 {
         return;
@@ -70,7 +70,7 @@ pub fn add(chart: &mut [u64; CHART], nonterminals: u32, start: usize, end: usize
 
 // The verdict on an input of so many tokens: whether nonterminal 0 has all of it. No call is made.
 pub fn verdict(chart: &[u64; CHART], tokens: usize) -> Answer
-    ensures { result ≡ chartVerdict chart.now tokens }
+    ensures { result ≡ chart_verdict chart.now tokens }
 {
     let calls = Calls {
         count: 0,

@@ -1,11 +1,11 @@
 // Sets of places of the input: place p weighs 2^p, and a place that no input has is in no set.
 ghost use Rattle.std.specs.Prelude.{◌≡◌};
-ghost use Rattle.tabular_promises.specs.contracts.Places.{onePlace, hasPlace, withPlace};
+ghost use Rattle.tabular_promises.specs.inner.Places.{only_place, has_place, with_place};
 
 use grammar::limits::TABULAR_PLACES;
 
 pub fn one_place(place: usize) -> u64
-    ensures { result ≡ onePlace place }
+    ensures { result ≡ only_place place }
 {
     if place < TABULAR_PLACES {
         1u64 << place
@@ -15,7 +15,7 @@ pub fn one_place(place: usize) -> u64
 }
 
 pub fn contains(set: u64, place: usize) -> bool
-    ensures { result ≡ hasPlace set place }
+    ensures { result ≡ has_place set place }
 {
     if place < TABULAR_PLACES {
         set >> place & 1 == 1
@@ -26,7 +26,7 @@ pub fn contains(set: u64, place: usize) -> bool
 
 // The set with a place put in, where it is to be.
 pub fn put(set: u64, place: usize, member: bool) -> u64
-    ensures { result ≡ withPlace set place member }
+    ensures { result ≡ with_place set place member }
 {
     if member { set | one_place(place) } else { set }
 }

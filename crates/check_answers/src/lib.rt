@@ -1,7 +1,7 @@
 // What a check answers: whether the lent table has room, and what is found.
 ghost use Rattle.std.specs.Prelude.{◌≡◌, leb};
-ghost use Rattle.table_promises.specs.Layout.{tableRoom};
-ghost use Rattle.check_answers.specs.contracts.Answers.{answer_of};
+ghost use Rattle.table_promises.specs.Layout.{table_room};
+ghost use Rattle.check_answers.specs.inner.Answers.{answer_of};
 
 use answer::Answer;
 use families::Finding;
@@ -10,7 +10,7 @@ use lookahead::Lookahead;
 
 // Whether so many words have room for every table.
 pub fn has_room(length: usize, lookahead: Lookahead) -> bool
-    ensures { result ≡ leb (tableRoom lookahead) length }
+    ensures { result ≡ leb (table_room lookahead) length }
 {
     match lookahead {
         Lookahead::One => TABLE_WORDS <= length,

@@ -12,30 +12,30 @@ use Rattle.lookahead.specs.declared.Lookahead.{Lookahead}
 use Rattle.families.specs.declared.Finding.{Finding}
 use Rattle.families.specs.declared.Finding.TheVariants.{Passed, Refused}
 use Rattle.table.specs.declared.Found.{Found}
-use Rattle.table_promises.specs.Layout.{tableRoom}
-use Rattle.table.specs.contracts.Analysis.{foundOf}
-use Rattle.table.proofs.Analyzing.{entries-told}
-use Rattle.check_answers.specs.contracts.Answers.{answer_of}
-use Rattle.lending.specs.contracts.Lending.{lent_of}
-use Rattle.lending.proofs.WordsLaid.{lent-table, lent_nothing}
+use Rattle.table_promises.specs.Layout.{table_room}
+use Rattle.table.specs.inner.Analysis.{found_of}
+use Rattle.table.proofs.Analyzing.{entries_told}
+use Rattle.check_answers.specs.inner.Answers.{answer_of}
+use Rattle.lending.specs.inner.Lending.{lent_of}
+use Rattle.lending.proofs.WordsLaid.{lent_table, lent_nothing}
 use Rattle.recognizer_promises.specs.Properties.{Checks}
-use Rattle.recognizer_promises.proofs.Checking.{told, found-fault, check-passed, check-refused}
+use Rattle.recognizer_promises.proofs.Checking.{told, found_fault, check_passed, check_refused}
 
 -- the table's room, by the test
-module _ (k : Lookahead) {n : ℕ} {b : Bool} (e : b ≡ leb (tableRoom k) n) where
-  pub room-lacks : not b ≡ true → n < tableRoom k
-  room-lacks h = omega (arith, leb-false (tableRoom k) n (sym e ∙ not-true b h))
+module _ (k : Lookahead) {n : ℕ} {b : Bool} (e : b ≡ leb (table_room k) n) where
+  pub room_lacks : not b ≡ true → n < table_room k
+  room_lacks h = omega (arith, leb-false (table_room k) n (sym e ∙ not-true b h))
 
-  pub room-there : not b ≡ false → tableRoom k ≤ n
-  room-there h = leb-true (tableRoom k) n (sym e ∙ not-false b h)
+  pub room_there : not b ≡ false → table_room k ≤ n
+  room_there h = leb-true (table_room k) n (sym e ∙ not-false b h)
 
-pub checks-found : (k : Lookahead) (words before : List ℕ) → tableRoom k ≤ length before → {r : Found} → r ≡ foundOf k words → {after : List ℕ}
+pub checks_found : (k : Lookahead) (words before : List ℕ) → table_room k ≤ length before → {r : Found} → r ≡ found_of k words → {after : List ℕ}
     → after ≡ lent_of k r before → {a : Answer} → a ≡ answer_of r.finding → Checks k words before a after
-checks-found k words before long {r} e {after} l {a} s = go r.finding refl
+checks_found k words before long {r} e {after} l {a} s = go r.finding refl
   where
     go : (f : Finding) → r.finding ≡ f → Checks k words before a after
     go (Passed z) p =
-        let m = entries-told k words e p in
-        rw (s ∙ ap answer_of p) (check-passed words before long m.faultless (l ∙ lent-table m before long p))
+        let m = entries_told k words e p in
+        rw (s ∙ ap answer_of p) (check_passed words before long m.faultless (l ∙ lent_table m before long p))
     go (Refused x) p =
-        rw (s ∙ ap answer_of p, l ∙ lent_nothing k r before p) (check-refused words before long (found-fault (told k words e) p))
+        rw (s ∙ ap answer_of p, l ∙ lent_nothing k r before p) (check_refused words before long (found_fault (told k words e) p))

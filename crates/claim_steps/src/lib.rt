@@ -1,10 +1,10 @@
 // What the claim of one rule does: to an entry, to what is claimed once and twice, and to what is told of a nonterminal that overruns.
 ghost use Rattle.std.specs.Prelude.{◌≡◌, ◌&&◌, ◌%◌};
 ghost use Rattle.base.specs.Choice.{choose};
-ghost use Rattle.grammar.specs.Limits.{maxNonterminals};
+ghost use Rattle.grammar.specs.Limits.{max_nonterminals};
 ghost use Rattle.lookahead.specs.Elements.{has};
-ghost use Rattle.lookahead.specs.contracts.Operations.{terminal};
-ghost use Rattle.claim_steps.specs.contracts.Steps.{ClaimNoted, beyondEnd};
+ghost use Rattle.lookahead.specs.inner.Operations.{terminal};
+ghost use Rattle.claim_steps.specs.inner.Steps.{ClaimNoted, beyond_end};
 
 use families::SETS;
 use lookahead::Lookahead;
@@ -19,7 +19,7 @@ pub fn entry(claim: LookaheadSet, element: u32, rule: u8, old: u8) -> u8
 
 // Joins a claim for a nonterminal: what was claimed before is claimed twice. Nonterminals are counted round, which takes no test.
 pub fn note(once: &mut [u64; SETS], twice: &mut [u64; SETS], head: usize, claim: LookaheadSet)
-    ensures { ClaimNoted once.old twice.old (head % maxNonterminals) claim.bits once.new twice.new }
+    ensures { ClaimNoted once.old twice.old (head % max_nonterminals) claim.bits once.new twice.new }
 {
     let at = head % SETS;
     let before = LookaheadSet { bits: once[at] };
@@ -35,7 +35,7 @@ pub fn told(
     before: LookaheadSet,
     lookahead: Lookahead,
 ) -> LookaheadSet
-    ensures { result.bits ≡ choose (alone && beyondEnd lookahead follow.bits) (terminal lookahead 0) before.bits }
+    ensures { result.bits ≡ choose (alone && beyond_end lookahead follow.bits) (terminal lookahead 0) before.bits }
 {
     let end = LookaheadSet::end(lookahead);
     if end.join(follow).bits == end.bits {

@@ -1,11 +1,11 @@
 // The line of an entry of the table: the rules that claim it.
 ghost use Rattle.std.specs.Prelude.{◌≡◌, ◌++◌, ◌≤◌, ◌<◌, min};
-ghost use Rattle.base.specs.Quantifiers.{one as one_of, countBelow};
-ghost use Rattle.grammar.specs.Limits.{maxRules};
-ghost use Rattle.claims.specs.contracts.Claims.{claimant};
+ghost use Rattle.base.specs.Quantifiers.{one as one_of, count_below};
+ghost use Rattle.grammar.specs.Limits.{max_rules};
+ghost use Rattle.claims.specs.inner.Claims.{claimant};
 ghost use Rattle.text.specs.Decimal.{decimal, labelled};
 ghost use Rattle.text.specs.Writing.{Put};
-ghost use Rattle.gaps_text_promises.specs.contracts.Steps.{claimantText, numbersText, claimantsText, EntryPut};
+ghost use Rattle.gaps_text_promises.specs.inner.Steps.{claimant_text, numbers_text, claimants_text, EntryPut};
 
 use columns::element;
 use grammar::limits::RULES;
@@ -22,7 +22,7 @@ fn claims_element(
     element: u32,
     rule: usize,
 ) -> bool
-    requires { rule < maxRules }
+    requires { rule < max_rules }
     ensures { result ≡ claimant heads.now sets.now nonterminal element rule }
 {
     let head = heads[rule];
@@ -48,8 +48,8 @@ fn count_claimants(
     nonterminal: u8,
     element: u32,
 ) -> usize
-    requires { rules ≤ maxRules }
-    ensures { result ≡ countBelow rules (claimant heads.now sets.now nonterminal element) }
+    requires { rules ≤ max_rules }
+    ensures { result ≡ count_below rules (claimant heads.now sets.now nonterminal element) }
 {
     let mut n = 0;
     let mut rule = 0;
@@ -62,7 +62,7 @@ fn count_claimants(
 }
 
 fn put_claimant(out: &mut [u8], at: usize, claimed: bool, rule: usize) -> usize
-    ensures { Put out.old at (claimantText claimed rule) out.new result }
+    ensures { Put out.old at (claimant_text claimed rule) out.new result }
 {
     if claimed {
         put_labelled(out, at, b" ", rule)
@@ -81,9 +81,9 @@ fn put_numbers(
     nonterminal: u8,
     element: u32,
 ) -> usize
-    requires { rules ≤ maxRules }
+    requires { rules ≤ max_rules }
     ensures { Put out.old at
-        (numbersText rules (claimant heads.now sets.now nonterminal element)) out.new result }
+        (numbers_text rules (claimant heads.now sets.now nonterminal element)) out.new result }
 {
     let mut next = at;
     let mut rule = 0;
@@ -106,9 +106,9 @@ fn put_claimants(
     element: u32,
     number: usize,
 ) -> usize
-    requires { (rules ≤ maxRules) × (number ≡ countBelow rules (claimant heads.now sets.now nonterminal element)) }
+    requires { (rules ≤ max_rules) × (number ≡ count_below rules (claimant heads.now sets.now nonterminal element)) }
     ensures { Put out.old at
-        (claimantsText rules (claimant heads.now sets.now nonterminal element)) out.new result }
+        (claimants_text rules (claimant heads.now sets.now nonterminal element)) out.new result }
 {
     if number == 0 {
         put_bytes(out, at, b" -")
@@ -127,7 +127,7 @@ fn put_place(out: &mut [u8], at: usize, nonterminal: u8, column: u32) -> usize
 
 // The number of rules, of which a grammar has no more than the limit.
 fn at_most_all(rules: usize) -> usize
-    ensures { result ≡ min rules maxRules }
+    ensures { result ≡ min rules max_rules }
 {
     if rules <= RULES { rules } else { RULES }
 }

@@ -15,19 +15,19 @@ use Rattle.grammar.specs.declared.reading.State.TheVariants.{Opened}
 use Rattle.grammar.specs.declared.reading.Sizes.{Sizes}
 use Rattle.grammar.specs.declared.reading.Reading.TheVariants.{Read}
 use Rattle.grammar.specs.Encoding.{Parsed, on_word, parse}
-use Rattle.grammar.specs.Reading.{allows, beginsRule, stateAfter, reading}
-use Rattle.grammar.specs.contracts.Starts.{ruleStarts}
-use Rattle.grammar.proofs.Suffixes.{Reached, scan-next, read-reaches}
+use Rattle.grammar.specs.Reading.{allows, begins_rule, state_after, reading}
+use Rattle.grammar.specs.inner.Starts.{rule_starts}
+use Rattle.grammar.proofs.Suffixes.{Reached, scan_next, read_reaches}
 use Rattle.grammar.proofs.WellFormed.{Shape, reads}
-use Rattle.grammar.proofs.WellRead.{well-read}
-use Rattle.admission.specs.Admission.{beginsNegative}
+use Rattle.grammar.proofs.WellRead.{well_read}
+use Rattle.admission.specs.Admission.{begins_negative}
 use Rattle.semantics.specs.Claims.{without}
-use Rattle.families.proofs.HeadPasses.{ruleNumbered}
-use Rattle.families.proofs.RuleRanges.{rule-is}
-use Rattle.families.proofs.Words.{parse-here, parse-over}
+use Rattle.families.proofs.HeadPasses.{rule_numbered}
+use Rattle.families.proofs.RuleRanges.{rule_is}
+use Rattle.families.proofs.Words.{parse_here, parse_over}
 
 -- behind the begin of a rule
-opened_after : (w : Word) (s : State) → beginsRule w ≡ true → stateAfter w s ≡ Opened
+opened_after : (w : Word) (s : State) → begins_rule w ≡ true → state_after w s ≡ Opened
 opened_after (RuleWord A) s e = refl
 opened_after Positive s e = absurd (false≢true e)
 opened_after Negative s e = absurd (false≢true e)
@@ -36,46 +36,46 @@ opened_after End s e = absurd (false≢true e)
 opened_after (Heading n t) s e = absurd (false≢true e)
 opened_after Invalid s e = absurd (false≢true e)
 
-none-opened : Shape Opened (parse []) → ⊥
+none_opened : Shape Opened (parse []) → ⊥
 unfolding parse
-none-opened s = s.1 refl
+none_opened s = s.1 refl
 
 -- a word that may stand there, by what the words behind it are
-negative-alone : (w : Word) (p : Parsed) → allows w Opened ≡ true → Shape (stateAfter w Opened) p → beginsNegative w ≡ without (on_word w p).positives
+negative_alone : (w : Word) (p : Parsed) → allows w Opened ≡ true → Shape (state_after w Opened) p → begins_negative w ≡ without (on_word w p).positives
 unfolding on_word
-negative-alone Positive p a s = refl
-negative-alone Negative p a s = rw s
-negative-alone (RuleWord A) p a s = absurd (false≢true a)
-negative-alone (Symbol X) p a s = absurd (false≢true a)
-negative-alone End p a s = absurd (false≢true a)
-negative-alone (Heading n t) p a s = absurd (false≢true a)
-negative-alone Invalid p a s = absurd (false≢true a)
+negative_alone Positive p a s = refl
+negative_alone Negative p a s = rw s
+negative_alone (RuleWord A) p a s = absurd (false≢true a)
+negative_alone (Symbol X) p a s = absurd (false≢true a)
+negative_alone End p a s = absurd (false≢true a)
+negative_alone (Heading n t) p a s = absurd (false≢true a)
+negative_alone Invalid p a s = absurd (false≢true a)
 
 module _ (words : List ℕ) {z : Sizes} (read : reading words ≡ Read z) where
   -- behind a word that begins a rule
-  behind-begin : (i : ℕ) → 0 < i → i < length words → beginsRule (decoded (get_or words i 0)) ≡ true
-      → (i + 1 < length words) × (beginsNegative (decoded (get_or words (i + 1) 0)) ≡ without (parse (drop (i + 1) words)).positives)
-  behind-begin i low high begun =
+  behind_begin : (i : ℕ) → 0 < i → i < length words → begins_rule (decoded (get_or words i 0)) ≡ true
+      → (i + 1 < length words) × (begins_negative (decoded (get_or words (i + 1) 0)) ≡ without (parse (drop (i + 1) words)).positives)
+  behind_begin i low high begun =
       let here : suc (i - 1) ≡ i = omega arith in
-      let r : Reached words i z = rw here at (read-reaches words z read (i - 1) (omega arith)) in
-      let n = scan-next words i r.progress z high r.reads in
+      let r : Reached words i z = rw here at (read_reaches words z read (i - 1) (omega arith)) in
+      let n = scan_next words i r.progress z high r.reads in
       let opened : n.progress.state ≡ Opened = n.passed.state ∙ opened_after (decoded (get_or words i 0)) r.progress.state begun in
       let shape : Shape Opened (parse (drop (i + 1) words)) = rw opened at (reads n.progress (i + 1) (drop (i + 1) words) z n.reads).fits.shape in
       let inside : i + 1 < length words = go (dec_lt (i + 1) (length words)) shape in
-      let m = scan-next words (i + 1) n.progress z inside n.reads in
+      let m = scan_next words (i + 1) n.progress z inside n.reads in
       let allowed : allows (decoded (get_or words (i + 1) 0)) Opened ≡ true = rw opened at m.passed.allowed in
-      let behind : Shape (stateAfter (decoded (get_or words (i + 1) 0)) Opened) (parse (drop (suc (i + 1)) words)) =
+      let behind : Shape (state_after (decoded (get_or words (i + 1) 0)) Opened) (parse (drop (suc (i + 1)) words)) =
       rw (m.passed.state, opened, add-one (i + 1)) at (reads m.progress (i + 1 + 1) (drop (i + 1 + 1) words) z m.reads).fits.shape in
-      (inside, negative-alone (decoded (get_or words (i + 1) 0)) (parse (drop (suc (i + 1)) words)) allowed behind ∙ rw (parse-here words (i + 1) inside))
+      (inside, negative_alone (decoded (get_or words (i + 1) 0)) (parse (drop (suc (i + 1)) words)) allowed behind ∙ rw (parse_here words (i + 1) inside))
     where
       go : Dec (i + 1 < length words) → Shape Opened (parse (drop (i + 1) words)) → i + 1 < length words
       go (yes h) s = h
-      go (no h) s = absurd (none-opened (rw (parse-over words (i + 1) (omega arith)) at s))
+      go (no h) s = absurd (none_opened (rw (parse_over words (i + 1) (omega arith)) at s))
 
-  pub first-conjunct : (q : ℕ) → q < z.rules
-      → (get_or (ruleStarts words) q 0 + 1 < length words)
-      × (beginsNegative (decoded (get_or words (get_or (ruleStarts words) q 0 + 1) 0)) ≡ without (ruleNumbered words q).positives)
-  first-conjunct q h =
-      let b = (well-read words z read).begun q h in
-      let c = behind-begin (get_or (ruleStarts words) q 0) b.low b.high b.word in
-      (c.0, c.1 ∙ rw (rule-is words z read q h, add-one (get_or (ruleStarts words) q 0)))
+  pub first_conjunct : (q : ℕ) → q < z.rules
+      → (get_or (rule_starts words) q 0 + 1 < length words)
+      × (begins_negative (decoded (get_or words (get_or (rule_starts words) q 0 + 1) 0)) ≡ without (rule_numbered words q).positives)
+  first_conjunct q h =
+      let b = (well_read words z read).begun q h in
+      let c = behind_begin (get_or (rule_starts words) q 0) b.low b.high b.word in
+      (c.0, c.1 ∙ rw (rule_is words z read q h, add-one (get_or (rule_starts words) q 0)))

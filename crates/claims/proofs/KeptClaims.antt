@@ -10,112 +10,112 @@ use Rattle.word.specs.declared.Word.{Word}
 use Rattle.word.specs.Words.{decoded}
 use Rattle.grammar.specs.declared.reading.Sizes.{Sizes}
 use Rattle.grammar.specs.declared.reading.Reading.TheVariants.{Read}
-use Rattle.grammar.specs.Limits.{maxNonterminals, maxRules}
+use Rattle.grammar.specs.Limits.{max_nonterminals, max_rules}
 use Rattle.grammar.specs.Syntax.{Rule}
-use Rattle.grammar.specs.Encoding.{grammarOf}
+use Rattle.grammar.specs.Encoding.{grammar_of}
 use Rattle.grammar.specs.Reading.{reading}
-use Rattle.grammar.specs.contracts.WellRead.{head_of, WellRead}
-use Rattle.grammar.proofs.WellRead.{well-read}
+use Rattle.grammar.specs.inner.WellRead.{head_of, WellRead}
+use Rattle.grammar.proofs.WellRead.{well_read}
 use Rattle.lookahead.specs.declared.Lookahead.{Lookahead}
 use Rattle.lookahead.specs.Lookaheads.{tokens}
-use Rattle.lookahead.specs.contracts.Lookaheads.{alphabet}
-use Rattle.lookahead.specs.contracts.Operations.{concatNumbers}
+use Rattle.lookahead.specs.inner.Lookaheads.{alphabet}
+use Rattle.lookahead.specs.inner.Operations.{concat_numbers}
 use Rattle.semantics.specs.FirstFollow.{follow}
-use Rattle.semantics.proofs.families.Follow.{follow-lookahead}
-use Rattle.semantics.proofs.descent.Outcomes.{nth-below, nth-mem}
-use Rattle.families.specs.contracts.RuleLists.{byRule}
-use Rattle.families.specs.contracts.Rules.{ByRules, PassGiven}
-use Rattle.families.specs.Sets.{followNumber}
-use Rattle.families.specs.contracts.Sets.{meetNumber}
-use Rattle.families.proofs.ByRules.{FilledTo, filled_none, filled_next, filled-each, by-rule-is, by-rule-at}
-use Rattle.families.proofs.FewTerminals.{admitted-read, few-terminals}
-use Rattle.families.proofs.HeadPasses.{ruleNumbered, its-head as pass-head, its-start, head-below}
-use Rattle.base.proofs.Lists.{listed-long}
+use Rattle.semantics.proofs.families.Follow.{follow_lookahead}
+use Rattle.semantics.proofs.descent.Outcomes.{nth_below, nth_mem}
+use Rattle.families.specs.inner.RuleLists.{by_rule}
+use Rattle.families.specs.inner.Rules.{ByRules, PassGiven}
+use Rattle.families.specs.Sets.{follow_number}
+use Rattle.families.specs.inner.Sets.{meet_number}
+use Rattle.families.proofs.ByRules.{FilledTo, filled_none, filled_next, filled_each, by_rule_is, by_rule_at}
+use Rattle.families.proofs.FewTerminals.{admitted_read, few_terminals_lem}
+use Rattle.families.proofs.HeadPasses.{rule_numbered, its_head as pass_head, its_start, head_below}
+use Rattle.base.proofs.Lists.{listed_long}
 use Rattle.families.proofs.Numbers.{array_at}
-use Rattle.claims.specs.contracts.Claims.{claimNumber, FamiliesGiven, AllKept}
-use Rattle.claims.proofs.RuleClaims.{claim-found}
+use Rattle.claims.specs.inner.Claims.{claim_number, FamiliesGiven, AllKept}
+use Rattle.claims.proofs.RuleClaims.{claim_found}
 
 -- what is kept of rule q
-abbrev pub headBy : List ℕ → ℕ → ℕ
-headBy words q = (ruleNumbered words q).head
+abbrev pub head_by : List ℕ → ℕ → ℕ
+head_by words q = (rule_numbered words q).head
 
-abbrev pub claimBy : Lookahead → List ℕ → ℕ → ℕ
-claimBy k words q = claimNumber k (grammarOf words) (ruleNumbered words q)
+abbrev pub claim_by : Lookahead → List ℕ → ℕ → ℕ
+claim_by k words q = claim_number k (grammar_of words) (rule_numbered words q)
 
 -- the invariant: the rules before i have had their heads and claims kept
 pub record Keeping (k : Lookahead) (words : List ℕ) (n : ℕ) (heads sets : List ℕ) (i : ℕ) : Type 0 where
-  pub own : FilledTo (headBy words) n true heads i
-  pub claims : FilledTo (claimBy k words) n true sets i
+  pub own : FilledTo (head_by words) n true heads i
+  pub claims : FilledTo (claim_by k words) n true sets i
 
 pub keeping_start : (k : Lookahead) (words : List ℕ) {n : ℕ} {heads sets : List ℕ} → ByRules n heads → ByRules n sets → Keeping k words n heads sets 0
-keeping_start k words {n} {heads} {sets} h s = record { own = filled_none (headBy words) n true heads h; claims = filled_none (claimBy k words) n true sets s }
+keeping_start k words {n} {heads} {sets} h s = record { own = filled_none (head_by words) n true heads h; claims = filled_none (claim_by k words) n true sets s }
 
 module _ {k : Lookahead} {words : List ℕ} {z : Sizes} {starts meets follows : List ℕ} (g : FamiliesGiven k words z starts meets follows) where
   pub read : reading words ≡ Read z
-  read = admitted-read k words g.read
+  read = admitted_read k words g.read
 
   known : WellRead words z
-  known = well-read words z read
+  known = well_read words z read
 
-  pub few : (grammarOf words).terminals ≤ alphabet k
-  few = few-terminals k words g.read
+  pub few : (grammar_of words).terminals ≤ alphabet k
+  few = few_terminals_lem k words g.read
 
-  pub few-rules : z.rules ≤ maxRules
-  few-rules = known.fewRules
+  pub few_rules_lem : z.rules ≤ max_rules
+  few_rules_lem = known.few_rules
 
-  pub follow-is : (A : ℕ) → get_or follows A 0 ≡ followNumber k (grammarOf words) A
-  unfolding followNumber
-  follow-is A =
-      let G = grammarOf words in
-      let many : G.nonterminals ≤ maxNonterminals = omega (arith, known.fewNonterminals, known.nonterminals) in
-      rw g.follow (array_at k G few (follow G (tokens k)) (follow-lookahead G (tokens k)) many A)
+  pub follow_is : (A : ℕ) → get_or follows A 0 ≡ follow_number k (grammar_of words) A
+  unfolding follow_number
+  follow_is A =
+      let G = grammar_of words in
+      let many : G.nonterminals ≤ max_nonterminals = omega (arith, known.few_nonterminals, known.nonterminals) in
+      rw g.follow (array_at k G few (follow G (tokens k)) (follow_lookahead G (tokens k)) many A)
 
   pub pass : PassGiven words starts z follows
-  pass = record { read = read; begins = g.begins; long = ap length g.follow ∙ listed-long maxNonterminals (followNumber k (grammarOf words)) }
+  pass = record { read = read; begins = g.begins; long = ap length g.follow ∙ listed_long max_nonterminals (follow_number k (grammar_of words)) }
 
   -- the rule that has its turn
   module _ {i : ℕ} (h : i < z.rules) where
-    pub start-inside : get_or starts i 0 < length words
-    start-inside = its-start pass true h refl
+    pub start_inside : get_or starts i 0 < length words
+    start_inside = its_start pass true h refl
 
     module _ {w : Word} {head : ℕ} (e : w ≡ decoded (get_or words (get_or starts i 0) 0)) (f : head ≡ head_of w) where
-      pub head_few : head < maxNonterminals
-      head_few = head-below pass true h refl e f
+      pub head_few : head < max_nonterminals
+      head_few = head_below pass true h refl e f
 
-      its-head : head ≡ headBy words i
-      its-head = pass-head pass true h refl e f
+      its_head : head ≡ head_by words i
+      its_head = pass_head pass true h refl e f
 
       -- its claim, by what its positives can all begin with and by what may follow its head
-      its_claim : {claim : ℕ} → claim ≡ concatNumbers k (get_or meets i 0) (get_or follows head 0) → claim ≡ claimBy k words i
+      its_claim : {claim : ℕ} → claim ≡ concat_numbers k (get_or meets i 0) (get_or follows head 0) → claim ≡ claim_by k words i
       its_claim c =
-          let G = grammarOf words in
-          let r = ruleNumbered words i in
+          let G = grammar_of words in
+          let r = rule_numbered words i in
           let begins = known.begins i h in
-          let meet : get_or meets i 0 ≡ meetNumber k G r = rw g.met (by-rule-at (meetNumber k G) G.rules i r begins) in
-          c ∙ rw (meet, follow-is head, its-head) (claim-found k G known.formed few r (nth-mem G.rules i r begins))
+          let meet : get_or meets i 0 ≡ meet_number k G r = rw g.met (by_rule_at (meet_number k G) G.rules i r begins) in
+          c ∙ rw (meet, follow_is head, its_head) (claim_found k G known.formed few r (nth_mem G.rules i r begins))
 
-      pub keeping-next : {heads sets heads' sets' : List ℕ} {claim : ℕ} → Keeping k words z.rules heads sets i
-          → claim ≡ concatNumbers k (get_or meets i 0) (get_or follows head 0) → heads' ≡ set heads i head → sets' ≡ set sets i claim
+      pub keeping_next : {heads sets heads' sets' : List ℕ} {claim : ℕ} → Keeping k words z.rules heads sets i
+          → claim ≡ concat_numbers k (get_or meets i 0) (get_or follows head 0) → heads' ≡ set heads i head → sets' ≡ set sets i claim
           → Keeping k words z.rules heads' sets' (i + 1)
-      keeping-next {claim = claim} v c a b = record {
-        own = filled_next true head few-rules v.own h a its-head;
-        claims = filled_next true claim few-rules v.claims h b (its_claim c);
+      keeping_next {claim = claim} v c a b = record {
+        own = filled_next true head few_rules_lem v.own h a its_head;
+        claims = filled_next true claim few_rules_lem v.claims h b (its_claim c);
       }
 
   -- all rules have had their turn
-  pub keeping-end : {heads sets : List ℕ} {i : ℕ} → Keeping k words z.rules heads sets i → z.rules ≤ i → AllKept k (grammarOf words) heads sets
-  keeping-end {heads} {sets} v h = record {
-    own = all (λ r. r.head) v.own.room (λ q b. filled-each true v.own h q b);
-    claims = all (claimNumber k (grammarOf words)) v.claims.room (λ q b. filled-each true v.claims h q b);
+  pub keeping_end : {heads sets : List ℕ} {i : ℕ} → Keeping k words z.rules heads sets i → z.rules ≤ i → AllKept k (grammar_of words) heads sets
+  keeping_end {heads} {sets} v h = record {
+    own = all (λ r. r.head) v.own.room (λ q b. filled_each true v.own h q b);
+    claims = all (claim_number k (grammar_of words)) v.claims.room (λ q b. filled_each true v.claims h q b);
   }
     where
       same : {x y : Rule} → some x ≡ some y → x ≡ y
       same e = cc
 
-      all : (f : Rule → ℕ) {l : List ℕ} → ByRules z.rules l → ((q : ℕ) → q < z.rules → get_or l q 0 ≡ f (ruleNumbered words q))
-          → l ≡ byRule (map f (grammarOf words).rules)
+      all : (f : Rule → ℕ) {l : List ℕ} → ByRules z.rules l → ((q : ℕ) → q < z.rules → get_or l q 0 ≡ f (rule_numbered words q))
+          → l ≡ by_rule (map f (grammar_of words).rules)
       all f room each =
-          by-rule-is f (grammarOf words).rules (omega (arith, known.rules, known.fewRules)) (rw known.rules at room)
+          by_rule_is f (grammar_of words).rules (omega (arith, known.rules, known.few_rules)) (rw known.rules at room)
           (λ q r s.
-          let low : q < z.rules = omega (arith, nth-below (grammarOf words).rules q r s, known.rules) in
+          let low : q < z.rules = omega (arith, nth_below (grammar_of words).rules q r s, known.rules) in
           each q low ∙ ap f (same (sym (known.begins q low) ∙ s)))

@@ -14,41 +14,41 @@ use Rattle.base.specs.Quantifiers.{any_of}
 use Rattle.word.specs.declared.Word.{Word}
 use Rattle.word.specs.Words.{decoded}
 use Rattle.grammar.specs.declared.reading.Sizes.{Sizes}
-use Rattle.grammar.specs.Limits.{maxNonterminals, maxRules}
+use Rattle.grammar.specs.Limits.{max_nonterminals, max_rules}
 use Rattle.grammar.specs.Syntax.{Rule}
-use Rattle.grammar.specs.Encoding.{grammarOf}
-use Rattle.grammar.specs.contracts.WellRead.{WellRead}
-use Rattle.grammar.proofs.WellRead.{well-read}
-use Rattle.admission.specs.Admission.{beginsNegative}
+use Rattle.grammar.specs.Encoding.{grammar_of}
+use Rattle.grammar.specs.inner.WellRead.{WellRead}
+use Rattle.grammar.proofs.WellRead.{well_read}
+use Rattle.admission.specs.Admission.{begins_negative}
 use Rattle.lookahead.specs.declared.Lookahead.{Lookahead}
-use Rattle.lookahead.specs.contracts.Operations.{terminal}
+use Rattle.lookahead.specs.inner.Operations.{terminal}
 use Rattle.semantics.specs.Claims.{without}
-use Rattle.semantics.proofs.descent.Outcomes.{nth-mem}
-use Rattle.families.proofs.ByRules.{by-rule-at}
-use Rattle.families.proofs.HeadPasses.{ruleNumbered}
-use Rattle.base.proofs.Lists.{getD-zeros}
-use Rattle.claim_steps.specs.contracts.Steps.{beyondEnd}
-use Rattle.claims.specs.contracts.Overruns.{aloneIn, overrunSet, HeadsGiven, Overrunning}
-use Rattle.claims.proofs.FirstConjuncts.{first-conjunct}
+use Rattle.semantics.proofs.descent.Outcomes.{nth_mem}
+use Rattle.families.proofs.ByRules.{by_rule_at}
+use Rattle.families.proofs.HeadPasses.{rule_numbered}
+use Rattle.base.proofs.Lists.{get_d_zeros}
+use Rattle.claim_steps.specs.inner.Steps.{beyond_end}
+use Rattle.claims.specs.inner.Overruns.{alone_in, overrun_set, HeadsGiven, Overrunning}
+use Rattle.claims.proofs.FirstConjuncts.{first_conjunct}
 
 -- no rule, nothing told
-overrun-none : (k : Lookahead) (follows : List ℕ) → Overrunning k [] follows (replicate maxNonterminals 0)
-unfolding aloneIn any_of
-overrun-none k follows = record { long = length-replicate {A = ℕ} maxNonterminals 0; each = λ A. getD-zeros maxNonterminals A }
+overrun_none : (k : Lookahead) (follows : List ℕ) → Overrunning k [] follows (replicate max_nonterminals 0)
+unfolding alone_in any_of
+overrun_none k follows = record { long = length-replicate {A = ℕ} max_nonterminals 0; each = λ A. get_d_zeros max_nonterminals A }
 
 -- one rule more
 one_more : (k : Lookahead) (alone more others : Bool)
-    → choose (alone && more) (terminal k 0) (overrunSet k (others && more)) ≡ overrunSet k ((alone || others) && more)
+    → choose (alone && more) (terminal k 0) (overrun_set k (others && more)) ≡ overrun_set k ((alone || others) && more)
 one_more k true true others = refl
 one_more k true false true = refl
 one_more k true false false = refl
 one_more k false more others = refl
 
-overrun-rule : {k : Lookahead} (r : Rule) {rules : List Rule} {follows before after : List ℕ} → Overrunning k rules follows before → r.head < maxNonterminals
-    → after ≡ set before r.head (choose (without r.positives && beyondEnd k (get_or follows r.head 0)) (terminal k 0) (get_or before r.head 0))
+overrun_rule : {k : Lookahead} (r : Rule) {rules : List Rule} {follows before after : List ℕ} → Overrunning k rules follows before → r.head < max_nonterminals
+    → after ≡ set before r.head (choose (without r.positives && beyond_end k (get_or follows r.head 0)) (terminal k 0) (get_or before r.head 0))
     → Overrunning k (r ∷ rules) follows after
-unfolding aloneIn any_of
-overrun-rule {k} r {rules} {follows} {before} {after} o own e = record {
+unfolding alone_in any_of
+overrun_rule {k} r {rules} {follows} {before} {after} o own e = record {
   long = ap length e ∙ length-set before head now ∙ o.long;
   each = λ A. rw e (go A (ℕ_discrete A head));
 }
@@ -57,17 +57,17 @@ overrun-rule {k} r {rules} {follows} {before} {after} o own e = record {
     head = r.head
 
     more : ℕ → Bool
-    more A = beyondEnd k (get_or follows A 0)
+    more A = beyond_end k (get_or follows A 0)
 
     now : ℕ
-    now = choose (without r.positives && beyondEnd k (get_or follows r.head 0)) (terminal k 0) (get_or before r.head 0)
+    now = choose (without r.positives && beyond_end k (get_or follows r.head 0)) (terminal k 0) (get_or before r.head 0)
 
     go : (A : ℕ) → Dec (A ≡ head)
-        → get_or (set before r.head (choose (without r.positives && beyondEnd k (get_or follows r.head 0)) (terminal k 0) (get_or before r.head 0))) A 0
-        ≡ overrunSet k (aloneIn A (r ∷ rules) && beyondEnd k (get_or follows A 0))
+        → get_or (set before r.head (choose (without r.positives && beyond_end k (get_or follows r.head 0)) (terminal k 0) (get_or before r.head 0))) A 0
+        ≡ overrun_set k (alone_in A (r ∷ rules) && beyond_end k (get_or follows A 0))
     go A (yes d) =
         rw (d, get_or-set_same before head now 0 (omega (arith, o.long)), eq-eqb r.head r.head refl, o.each r.head)
-        (one_more k (without r.positives) (more head) (aloneIn head rules))
+        (one_more k (without r.positives) (more head) (alone_in head rules))
     go A (no d) = rw (get_or-set_other before head A now 0 d, ne_eqb r.head A (λ x. d (sym x))) (o.each A)
 
 -- the list from a member on
@@ -78,45 +78,45 @@ nth_drop (x ∷ l) (suc q) r e = nth_drop l q r e
 
 -- the rules are gone over from the last on: those from i on have told what they tell
 pub record Telling (k : Lookahead) (words follows overruns : List ℕ) (i : ℕ) : Type 0 where
-  pub told : Overrunning k (drop i (grammarOf words).rules) follows overruns
+  pub told : Overrunning k (drop i (grammar_of words).rules) follows overruns
 
 module _ {words starts heads : List ℕ} {z : Sizes} (g : HeadsGiven words starts heads z) where
   known : WellRead words z
-  known = well-read words z g.read
+  known = well_read words z g.read
 
   -- the rule that has its turn
   module _ {i : ℕ} (h : 0 < i) (b : i ≤ z.rules) where
-    pub conjunct-inside : get_or starts (i - 1) 0 + 1 < length words
-    conjunct-inside = rw g.begins (first-conjunct words g.read (i - 1) (omega arith)).0
+    pub conjunct_inside : get_or starts (i - 1) 0 + 1 < length words
+    conjunct_inside = rw g.begins (first_conjunct words g.read (i - 1) (omega arith)).0
 
-    pub rule-few : i - 1 < maxRules
-    rule-few = omega (arith, known.fewRules)
+    pub rule_few : i - 1 < max_rules
+    rule_few = omega (arith, known.few_rules)
 
-    its-head : get_or heads (i - 1) 0 ≡ (ruleNumbered words (i - 1)).head
-    its-head = rw g.own (by-rule-at (λ r. r.head) (grammarOf words).rules (i - 1) _ (known.begins (i - 1) (omega arith)))
+    its_head : get_or heads (i - 1) 0 ≡ (rule_numbered words (i - 1)).head
+    its_head = rw g.own (by_rule_at (λ r. r.head) (grammar_of words).rules (i - 1) _ (known.begins (i - 1) (omega arith)))
 
-    pub head_few : get_or heads (i - 1) 0 < maxNonterminals
+    pub head_few : get_or heads (i - 1) 0 < max_nonterminals
     head_few =
-        let m = nth-mem (grammarOf words).rules (i - 1) _ (known.begins (i - 1) (omega arith)) in
-        omega (arith, its-head, known.formed.scoped.heads _ m, known.fewNonterminals, known.nonterminals)
+        let m = nth_mem (grammar_of words).rules (i - 1) _ (known.begins (i - 1) (omega arith)) in
+        omega (arith, its_head, known.formed.scoped.heads _ m, known.few_nonterminals, known.nonterminals)
 
-    pub telling-turn : {k : Lookahead} {follows before after : List ℕ} {w : Word} {alone : Bool} {v : ℕ} → Telling k words follows before i
-        → w ≡ decoded (get_or words (get_or starts (i - 1) 0 + 1) 0) → alone ≡ beginsNegative w
-        → v ≡ choose (alone && beyondEnd k (get_or follows (get_or heads (i - 1) 0) 0)) (terminal k 0) (get_or before (get_or heads (i - 1) 0) 0)
+    pub telling_turn : {k : Lookahead} {follows before after : List ℕ} {w : Word} {alone : Bool} {v : ℕ} → Telling k words follows before i
+        → w ≡ decoded (get_or words (get_or starts (i - 1) 0 + 1) 0) → alone ≡ begins_negative w
+        → v ≡ choose (alone && beyond_end k (get_or follows (get_or heads (i - 1) 0) 0)) (terminal k 0) (get_or before (get_or heads (i - 1) 0) 0)
         → after ≡ set before (get_or heads (i - 1) 0) v → Telling k words follows after (i - 1)
-    telling-turn {k} {follows} {before} {after} {w} {alone} {v} t e a d s =
-        let r = ruleNumbered words (i - 1) in
+    telling_turn {k} {follows} {before} {after} {w} {alone} {v} t e a d s =
+        let r = rule_numbered words (i - 1) in
         let next : suc (i - 1) ≡ i = omega arith in
-        let rules : drop (i - 1) (grammarOf words).rules ≡ r ∷ drop i (grammarOf words).rules =
-        nth_drop (grammarOf words).rules (i - 1) r (known.begins (i - 1) (omega arith)) ∙ ap (λ n. r ∷ drop n (grammarOf words).rules) next in
-        let negative : alone ≡ without r.positives = a ∙ rw (e, g.begins) (first-conjunct words g.read (i - 1) (omega arith)).1 in
-        let own : r.head < maxNonterminals = omega (arith, head_few, its-head) in
-        record { told = rw rules (overrun-rule r t.told own (s ∙ rw (d, negative, its-head))) }
+        let rules : drop (i - 1) (grammar_of words).rules ≡ r ∷ drop i (grammar_of words).rules =
+        nth_drop (grammar_of words).rules (i - 1) r (known.begins (i - 1) (omega arith)) ∙ ap (λ n. r ∷ drop n (grammar_of words).rules) next in
+        let negative : alone ≡ without r.positives = a ∙ rw (e, g.begins) (first_conjunct words g.read (i - 1) (omega arith)).1 in
+        let own : r.head < max_nonterminals = omega (arith, head_few, its_head) in
+        record { told = rw rules (overrun_rule r t.told own (s ∙ rw (d, negative, its_head))) }
 
-  pub telling-start : (k : Lookahead) (follows : List ℕ) → Telling k words follows (replicate maxNonterminals 0) z.rules
-  telling-start k follows =
-      record { told = rw (drop_of_length-le (grammarOf words).rules {i = z.rules} (omega (arith, known.rules))) (overrun-none k follows) }
+  pub telling_start : (k : Lookahead) (follows : List ℕ) → Telling k words follows (replicate max_nonterminals 0) z.rules
+  telling_start k follows =
+      record { told = rw (drop_of_length-le (grammar_of words).rules {i = z.rules} (omega (arith, known.rules))) (overrun_none k follows) }
 
-pub telling-end : {k : Lookahead} {words follows overruns : List ℕ} {i : ℕ} → Telling k words follows overruns i → i ≤ 0
-    → Overrunning k (grammarOf words).rules follows overruns
-telling-end {i = i} t h = let e : i ≡ 0 = omega arith in rw e at t.told
+pub telling_end : {k : Lookahead} {words follows overruns : List ℕ} {i : ℕ} → Telling k words follows overruns i → i ≤ 0
+    → Overrunning k (grammar_of words).rules follows overruns
+telling_end {i = i} t h = let e : i ≡ 0 = omega arith in rw e at t.told

@@ -1,8 +1,8 @@
 // What each rule claims, and which nonterminals overrun, found once: conflicts and the table are read off it.
 ghost use Rattle.std.specs.Prelude.{◌≡◌};
-ghost use Rattle.families.specs.contracts.Rules.{ByRules};
-ghost use Rattle.grammar.specs.Encoding.{grammarOf};
-ghost use Rattle.claims.specs.contracts.Claims.{claimsWith, claims_of, FamiliesGiven, AllKept};
+ghost use Rattle.families.specs.inner.Rules.{ByRules};
+ghost use Rattle.grammar.specs.Encoding.{grammar_of};
+ghost use Rattle.claims.specs.inner.Claims.{claims_with, claims_of, FamiliesGiven, AllKept};
 
 use concatenation::concat;
 use families::{Finding, SETS};
@@ -30,7 +30,7 @@ fn keep_claims<'a>(
 )
     requires { FamiliesGiven lookahead words.now sizes starts.now meets.now follows.now
         × ByRules sizes.rules heads.old × ByRules sizes.rules sets.old }
-    ensures { AllKept lookahead (grammarOf words.now) heads.new sets.new }
+    ensures { AllKept lookahead (grammar_of words.now) heads.new sets.new }
 {
     let mut rule = 0;
     while rule < sizes.rules {
@@ -57,7 +57,7 @@ pub fn analyze(
     sets: &mut [u64; RULES],
     overruns: &mut [u64; SETS],
 ) -> Finding
-    ensures { claimsWith result starts.new firsts.new follows.new heads.new sets.new
+    ensures { claims_with result starts.new firsts.new follows.new heads.new sets.new
         overruns.new ≡ claims_of lookahead words.now }
 {
     let families = sets::analyze(words, lookahead);

@@ -1,6 +1,6 @@
 // The nonterminals that overrun: a rule without positives takes all that is left, yet more than the end can follow.
-ghost use Rattle.grammar.specs.Encoding.{grammarOf};
-ghost use Rattle.claims.specs.contracts.Overruns.{HeadsGiven, Overrunning};
+ghost use Rattle.grammar.specs.Encoding.{grammar_of};
+ghost use Rattle.claims.specs.inner.Overruns.{HeadsGiven, Overrunning};
 
 use admission::begins_negative;
 use claim_steps::told;
@@ -22,7 +22,7 @@ pub(crate) fn overrunning<'a>(
     lookahead: Lookahead,
 ) -> [u64; SETS]
     requires { HeadsGiven words.now starts.now heads.now sizes }
-    ensures { Overrunning lookahead (grammarOf words.now).rules follows.now result }
+    ensures { Overrunning lookahead (grammar_of words.now).rules follows.now result }
 {
     let mut overruns = [0u64; SETS];
     let mut rule = sizes.rules;

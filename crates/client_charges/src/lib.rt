@@ -1,6 +1,6 @@
 // Whom the allowance turns away, and what an answer adds to the clients' records.
 ghost use Rattle.std.specs.Prelude.{◌≡◌};
-ghost use Rattle.client_records.specs.contracts.Charges.{servedWith};
+ghost use Rattle.client_records.specs.inner.Charges.{served_with};
 
 use answer::Answer;
 use client_records::{CLIENTS, Served};
@@ -10,7 +10,7 @@ pub mod allowance;
 
 // Counts an answer in the record of its client; an answer to no client is counted nowhere.
 pub fn charge(usages: [Usage; CLIENTS], client: u32, answer: Answer) -> Served
-    ensures { result ≡ servedWith client answer usages }
+    ensures { result ≡ served_with client answer usages }
 {
     if CLIENTS <= client as usize {
         return Served { answer, usages };

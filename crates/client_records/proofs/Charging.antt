@@ -14,71 +14,71 @@ use Rattle.answer.specs.declared.Answer.TheVariants.{Refused, Passed}
 use Rattle.base.specs.Choice.{choose}
 use Rattle.usage.specs.declared.Usage.{Usage}
 use Rattle.usage.specs.Counters.{unused}
-use Rattle.usage.specs.Histories.{countedAnswer}
+use Rattle.usage.specs.Histories.{counted_answer}
 use Rattle.client_records.specs.declared.totals.Totals.{Totals}
-use Rattle.client_records.specs.Usages.{clients, usageOfClient, calledBy, sumBelow, charged, exhausted, UsedUp, Charges}
+use Rattle.client_records.specs.Usages.{clients, usage_of_client, called_by, sum_below, charged, exhausted, UsedUp, Charges}
 use Rattle.client_records.specs.Sums.{Totalled}
-use Rattle.client_records.specs.contracts.Charges.{allowedBy, servedWith}
+use Rattle.client_records.specs.inner.Charges.{allowed_by, served_with}
 
 -- the test of an allowance, by its first part
-pub share-reached : {t : Totals} (us : List Usage) (own share limit : ℕ) → share ≤ own → Totalled us t
-    → leb limit t.called ≡ exhausted own share (sumBelow clients (calledBy us)) limit
-share-reached us own share limit h t = rw (le-leb share own h, t.sums)
+pub share_reached : {t : Totals} (us : List Usage) (own share limit : ℕ) → share ≤ own → Totalled us t
+    → leb limit t.called ≡ exhausted own share (sum_below clients (called_by us)) limit
+share_reached us own share limit h t = rw (le-leb share own h, t.sums)
 
-pub share-not-reached : (us : List Usage) (own share limit : ℕ) → own < share → false ≡ exhausted own share (sumBelow clients (calledBy us)) limit
-share-not-reached us own share limit h = rw (lt-leb share own h)
+pub share_not_reached : (us : List Usage) (own share limit : ℕ) → own < share → false ≡ exhausted own share (sum_below clients (called_by us)) limit
+share_not_reached us own share limit h = rw (lt-leb share own h)
 
 -- what it tells
 module _ (client share limit : ℕ) (f : ℕ → ℕ) where
-  pub used-up : client < clients → exhausted (f client) share (sumBelow clients f) limit ≡ true → UsedUp client share limit f
-  used-up h e = go (leb share (f client)) (leb limit (sumBelow clients f)) refl refl e
+  pub used_up : client < clients → exhausted (f client) share (sum_below clients f) limit ≡ true → UsedUp client share limit f
+  used_up h e = go (leb share (f client)) (leb limit (sum_below clients f)) refl refl e
     where
-      go : (a b : Bool) → leb share (f client) ≡ a → leb limit (sumBelow clients f) ≡ b → a && b ≡ true → UsedUp client share limit f
-      go true true p q e = (h, leb-true share (f client) p, leb-true limit (sumBelow clients f) q)
+      go : (a b : Bool) → leb share (f client) ≡ a → leb limit (sum_below clients f) ≡ b → a && b ≡ true → UsedUp client share limit f
+      go true true p q e = (h, leb-true share (f client) p, leb-true limit (sum_below clients f) q)
       go true false p q e = absurd (true≢false (sym e))
       go false b p q e = absurd (true≢false (sym e))
 
-  pub exhausted-true : UsedUp client share limit f → exhausted (f client) share (sumBelow clients f) limit ≡ true
-  exhausted-true (h, s, t) = rw (le-leb share (f client) s, le-leb limit (sumBelow clients f) t)
+  pub exhausted_true : UsedUp client share limit f → exhausted (f client) share (sum_below clients f) limit ≡ true
+  exhausted_true (h, s, t) = rw (le-leb share (f client) s, le-leb limit (sum_below clients f) t)
 
 -- what is answered before a log is judged, by the tests
 module _ (client share limit : ℕ) (us : List Usage) where
-  pub allowed-nobody : clients ≤ client → Refused UnknownClient ≡ allowedBy client share limit us
-  allowed-nobody h = rw (le-leb clients client h)
+  pub allowed_nobody : clients ≤ client → Refused UnknownClient ≡ allowed_by client share limit us
+  allowed_nobody h = rw (le-leb clients client h)
 
-  module _ {b : Bool} (h : client < clients) (e : b ≡ exhausted (calledBy us client) share (sumBelow clients (calledBy us)) limit) where
-    pub allowed-none : b ≡ true → Refused QuotaReached ≡ allowedBy client share limit us
-    allowed-none t = rw (lt-leb clients client h, sym e ∙ t)
+  module _ {b : Bool} (h : client < clients) (e : b ≡ exhausted (called_by us client) share (sum_below clients (called_by us)) limit) where
+    pub allowed_none : b ≡ true → Refused QuotaReached ≡ allowed_by client share limit us
+    allowed_none t = rw (lt-leb clients client h, sym e ∙ t)
 
-    pub allowed-one : b ≡ false → Passed ≡ allowedBy client share limit us
-    allowed-one t = rw (lt-leb clients client h, sym e ∙ t)
+    pub allowed_one : b ≡ false → Passed ≡ allowed_by client share limit us
+    allowed_one t = rw (lt-leb clients client h, sym e ∙ t)
 
 -- an answer to a client
 module _ (client : ℕ) (x : Answer) (us : List Usage) where
-  pub charged-nobody : clients ≤ client → record { answer = x; usages = us } ≡ servedWith client x us
+  pub charged_nobody : clients ≤ client → record { answer = x; usages = us } ≡ served_with client x us
   unfolding charged
-  charged-nobody h = rw (le-ltb client clients h)
+  charged_nobody h = rw (le-ltb client clients h)
 
-  pub charged-client : {u : Usage} → client < clients → u ≡ countedAnswer (usageOfClient us client) x
-      → record { answer = x; usages = set us client u } ≡ servedWith client x us
+  pub charged_client : {u : Usage} → client < clients → u ≡ counted_answer (usage_of_client us client) x
+      → record { answer = x; usages = set us client u } ≡ served_with client x us
   unfolding charged
-  charged-client h e = rw (lt-ltb client clients h, e)
+  charged_client h e = rw (lt-ltb client clients h, e)
 
-  charged-own : client < clients → length us ≡ clients → usageOfClient (charged client x us) client ≡ countedAnswer (usageOfClient us client) x
+  charged_own : client < clients → length us ≡ clients → usage_of_client (charged client x us) client ≡ counted_answer (usage_of_client us client) x
   unfolding charged
-  charged-own h e = rw (lt-ltb client clients h) (get_or-set_same us client _ unused (omega arith))
+  charged_own h e = rw (lt-ltb client clients h) (get_or-set_same us client _ unused (omega arith))
 
-  charged-other : (k : ℕ) → (client ≡ k → ⊥) → usageOfClient (charged client x us) k ≡ usageOfClient us k
+  charged_other : (k : ℕ) → (client ≡ k → ⊥) → usage_of_client (charged client x us) k ≡ usage_of_client us k
   unfolding charged
-  charged-other k d = go (ltb client clients)
+  charged_other k d = go (ltb client clients)
     where
-      go : (b : Bool) → usageOfClient (choose b (set us client (countedAnswer (usageOfClient us client) x)) us) k ≡ usageOfClient us k
+      go : (b : Bool) → usage_of_client (choose b (set us client (counted_answer (usage_of_client us client) x)) us) k ≡ usage_of_client us k
       go true = get_or-set_other us client k _ unused (λ e. d (sym e))
       go false = refl
 
   pub charges : {vs : List Usage} → length us ≡ clients → vs ≡ charged client x us → Charges client x us vs
   charges eight e = record {
     whole = e;
-    own = λ h. ap (λ (l : List Usage). usageOfClient l client) e ∙ charged-own h eight;
-    others = λ k d. ap (λ (l : List Usage). usageOfClient l k) e ∙ charged-other k d;
+    own = λ h. ap (λ (l : List Usage). usage_of_client l client) e ∙ charged_own h eight;
+    others = λ k d. ap (λ (l : List Usage). usage_of_client l k) e ∙ charged_other k d;
   }

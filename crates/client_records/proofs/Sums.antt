@@ -5,15 +5,15 @@ use Prim.Native.Nat.{ℕ, zero, suc, ◌+◌, ◌*◌, ◌≤◌, ◌<◌}
 use native.Mathlib.Numerals.{add-one}
 use native.Mathlib.Omega.{arith}
 use Rattle.usage.specs.declared.Usage.{Usage}
-use Rattle.usage.specs.Counters.{counterLimit, saturated}
+use Rattle.usage.specs.Counters.{counter_limit, saturated}
 use Rattle.client_records.specs.declared.totals.Totals.{Totals}
-use Rattle.client_records.specs.Usages.{clients, usageOfClient, sumBelow}
-use Rattle.client_records.specs.Sums.{totalsOf, Totalled}
-use Rattle.client_records.specs.contracts.Sums.{TotalsSmall, AddsUsage, SummedUp}
+use Rattle.client_records.specs.Usages.{clients, usage_of_client, sum_below}
+use Rattle.client_records.specs.Sums.{totals_of, Totalled}
+use Rattle.client_records.specs.inner.Sums.{TotalsSmall, AddsUsage, SummedUp}
 
-pub nothing-summed : (us : List Usage) → SummedUp us 0 (totalsOf 0 0 0 0)
-unfolding sumBelow
-nothing-summed us = record {
+pub nothing_summed : (us : List Usage) → SummedUp us 0 (totals_of 0 0 0 0)
+unfolding sum_below
+nothing_summed us = record {
   few = omega arith;
   sums = refl;
   within = record { calls = omega arith; refusals = omega arith; acceptances = omega arith; called = omega arith };
@@ -28,10 +28,10 @@ module _ {us : List Usage} {n : ℕ} {t : Totals} (s : SummedUp us n t) where
     called = omega (arith, s.within.called);
   }
 
-  pub one_more : {r : Totals} → n < clients → AddsUsage t (usageOfClient us n) r → SummedUp us (n + 1) r
-  unfolding sumBelow
+  pub one_more : {r : Totals} → n < clients → AddsUsage t (usage_of_client us n) r → SummedUp us (n + 1) r
+  unfolding sum_below
   one_more {r} h a =
-      let w = a.within (n * counterLimit) s.within in
+      let w = a.within (n * counter_limit) s.within in
       record {
         few = omega arith;
         sums = rw (add-one n) (a.sums ∙ rw s.sums);
@@ -43,17 +43,17 @@ module _ {us : List Usage} {n : ℕ} {t : Totals} (s : SummedUp us n t) where
         };
       }
 
-  pub all-summed : clients ≤ n → Totalled us t
-  all-summed h = let e : n ≡ clients = omega (arith, s.few) in record { sums = rw e at s.sums; within = rw e at s.within }
+  pub all_summed : clients ≤ n → Totalled us t
+  all_summed h = let e : n ≡ clients = omega (arith, s.few) in record { sums = rw e at s.sums; within = rw e at s.within }
 
 -- sums of numbers that are alike
-pub sum_alike : (n : ℕ) (f g : ℕ → ℕ) → ((k : ℕ) → f k ≡ g k) → sumBelow n f ≡ sumBelow n g
-unfolding sumBelow
+pub sum_alike : (n : ℕ) (f g : ℕ → ℕ) → ((k : ℕ) → f k ≡ g k) → sum_below n f ≡ sum_below n g
+unfolding sum_below
 sum_alike zero f g e = refl
 sum_alike (suc n) f g e = omega (arith, sum_alike n f g e, e n)
 
 -- sums of numbers that are cut at different times stop alike
-pub sums-stop : (n : ℕ) (f g : ℕ → ℕ) → ((k : ℕ) → k < n → saturated (f k) ≡ saturated (g k)) → saturated (sumBelow n f) ≡ saturated (sumBelow n g)
-unfolding sumBelow
-sums-stop zero f g e = refl
-sums-stop (suc n) f g e = omega (arith, sums-stop n f g (λ k h. e k (omega arith)), e n (omega arith))
+pub sums_stop : (n : ℕ) (f g : ℕ → ℕ) → ((k : ℕ) → k < n → saturated (f k) ≡ saturated (g k)) → saturated (sum_below n f) ≡ saturated (sum_below n g)
+unfolding sum_below
+sums_stop zero f g e = refl
+sums_stop (suc n) f g e = omega (arith, sums_stop n f g (λ k h. e k (omega arith)), e n (omega arith))

@@ -1,3 +1,3 @@
 pub mod Usages
 pub mod Sums
-pub mod contracts
+pub mod inner

@@ -1,6 +1,6 @@
 // The records of the clients of one judge, their totals, and the allowance by which a client is turned away.
 ghost use Rattle.std.specs.Prelude.{◌≡◌};
-ghost use Rattle.client_records.specs.Usages.{nobody, calledBy, sumBelow, clients, exhausted};
+ghost use Rattle.client_records.specs.Usages.{nobody, called_by, sum_below, clients, exhausted};
 
 use answer::Answer;
 use totals::total;
@@ -28,7 +28,7 @@ pub fn no_usage() -> [Usage; CLIENTS]
 
 // Whether a client's descents have called as much as its share, and those of all clients as much as the limit.
 pub fn is_exhausted(usages: [Usage; CLIENTS], own: Usage, share: u32, limit: u32) -> bool
-    ensures { result ≡ exhausted own.called share (sumBelow clients (calledBy usages)) limit }
+    ensures { result ≡ exhausted own.called share (sum_below clients (called_by usages)) limit }
 {
     let all = total(usages);
     let limit_reached = limit as u64 <= all.called;

@@ -1,5 +1,5 @@
 // The sums of all clients' counters, in numbers of 64 bits.
-ghost use Rattle.client_records.specs.contracts.Sums.{TotalsSmall, AddsUsage};
+ghost use Rattle.client_records.specs.inner.Sums.{TotalsSmall, AddsUsage};
 ghost use Rattle.client_records.specs.Sums.{Totalled};
 
 use super::CLIENTS;

@@ -2,8 +2,8 @@
 ghost use Rattle.std.specs.Prelude.{◌≡◌, ◌<◌};
 ghost use Rattle.client_records.specs.Usages.{clients};
 ghost use Rattle.embed_promises.specs.Exports.{TotalsExported};
-ghost use Rattle.embed_promises.specs.Records.{usageAt, usagesIn, totalsRow};
-ghost use Rattle.embed_promises.specs.contracts.Records.{HandedBack};
+ghost use Rattle.embed_promises.specs.Records.{usage_at, usages_in, totals_row};
+ghost use Rattle.embed_promises.specs.inner.Records.{HandedBack};
 
 use client_records::totals::{Totals, total};
 use client_records::{CLIENTS, Served};
@@ -17,7 +17,7 @@ pub const ROW: usize = CLIENTS * COUNTERS;
 // A client's record.
 fn usage_at(row: [u32; ROW], client: usize) -> Usage
     requires { client < clients }
-    ensures { result ≡ usageAt row client }
+    ensures { result ≡ usage_at row client }
 {
     let at = client * COUNTERS;
     Usage {
@@ -29,7 +29,7 @@ fn usage_at(row: [u32; ROW], client: usize) -> Usage
 }
 
 pub fn usages_in(row: [u32; ROW]) -> [Usage; CLIENTS]
-    ensures { result ≡ usagesIn row }
+    ensures { result ≡ usages_in row }
 {
     [
         usage_at(row, 0),
@@ -44,7 +44,7 @@ pub fn usages_in(row: [u32; ROW]) -> [Usage; CLIENTS]
 }
 
 fn row_of(usages: [Usage; CLIENTS]) -> [u32; ROW]
-    ensures { usagesIn result ≡ usages }
+    ensures { usages_in result ≡ usages }
 {
     let mut row = [0; ROW];
     let mut client = 0;
@@ -61,7 +61,7 @@ fn row_of(usages: [Usage; CLIENTS]) -> [u32; ROW]
 }
 
 fn totals_row(totals: Totals) -> [u64; COUNTERS]
-    ensures { result ≡ totalsRow totals }
+    ensures { result ≡ totals_row totals }
 {
     [
         totals.calls,

@@ -10,31 +10,31 @@ use Rattle.answer.specs.Numbers.{coded}
 use Rattle.lookahead.specs.declared.Lookahead.TheVariants.{One}
 use Rattle.lookahead.specs.Lookaheads.{tokens}
 use Rattle.recognizer_promises.specs.Properties.{Judges}
-use Rattle.recognizer_promises.proofs.RefusalErrors.{JudgeErrors, refused-each}
+use Rattle.recognizer_promises.proofs.RefusalErrors.{JudgeErrors, refused_each}
 
 abbrev LowCode : Error → Type 0
 LowCode e = (coded e).code ≤ 13
 
-judge-low : (words : List ℕ) → JudgeErrors One words LowCode
-judge-low words = record {
-  shortTable = omega arith;
-  shortMemo = omega arith;
+judge_low : (words : List ℕ) → JudgeErrors One words LowCode
+judge_low words = record {
+  short_table = omega arith;
+  short_memo = omega arith;
   grammar = record {
     sets = record {
       long = omega arith;
       heading = omega arith;
-      unexpectedWord = λ i h. omega arith;
-      outOfRange = λ i h. omega arith;
-      tooManyRules = λ i h. omega arith;
-      tooManyTerminals = λ two. absurd (omega (arith, ap tokens two));
-      leftRecursive = λ A h. omega arith;
+      unexpected_word = λ i h. omega arith;
+      out_of_range = λ i h. omega arith;
+      too_many_rules = λ i h. omega arith;
+      too_many_terminals = λ two. absurd (omega (arith, ap tokens two));
+      left_recursive = λ A h. omega arith;
       unproductive = λ A h. omega arith;
     };
     conflict = λ few small A c e. omega arith;
   };
-  input = record { tooLong = omega arith; unknownToken = λ i h. omega arith };
+  input = record { too_long = omega arith; unknown_token = λ i h. omega arith };
 }
 
-pub never-judged : (x : Error) → 13 < (coded x).code → {words input table memo table' memo' : List ℕ} {a : Answer}
+pub never_judged : (x : Error) → 13 < (coded x).code → {words input table memo table' memo' : List ℕ} {a : Answer}
     → Judges One words input table memo a table' memo' → a ≡ Refused x → ⊥
-never-judged x high {words} j e = omega (arith, refused-each (judge-low words) j x e)
+never_judged x high {words} j e = omega (arith, refused_each (judge_low words) j x e)

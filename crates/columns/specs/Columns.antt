@@ -2,27 +2,27 @@
 -- terminals are (document 02: the end, each last letter, then each two letters).
 use Rattle.std.specs.Prelude.{List, [], ◌∷◌, ℕ, suc, eqb}
 use Rattle.base.specs.Choice.{choose}
-use Rattle.grammar.specs.Limits.{maxColumnsOfTwo}
+use Rattle.grammar.specs.Limits.{max_columns_of_two}
 use Rattle.grammar.specs.Syntax.{Grammar}
 use Rattle.lookahead.specs.declared.Lookahead.{Lookahead}
 use Rattle.lookahead.specs.declared.Lookahead.TheVariants.{One, Two}
-use Rattle.lookahead.specs.Lookaheads.{elementOf, stringOf}
+use Rattle.lookahead.specs.Lookaheads.{element_of, string_of}
 use Rattle.semantics.specs.Claims.{column}
 
 -- how many there are
-abbrev pub columnCount : Lookahead → ℕ → ℕ
-columnCount One terminals = suc terminals
-columnCount Two terminals = maxColumnsOfTwo
+abbrev pub column_count : Lookahead → ℕ → ℕ
+column_count One terminals = suc terminals
+column_count Two terminals = max_columns_of_two
 
 abbrev pub columns : Lookahead → Grammar → ℕ
-columns k G = columnCount k G.terminals
+columns k G = column_count k G.terminals
 
 -- the lookahead string of a column
-unfoldable pub columnString : Lookahead → ℕ → ℕ → List ℕ
-columnString One terminals c = choose (eqb c terminals) [] (c ∷ [])
-columnString Two terminals c = stringOf Two c
+unfoldable pub column_string : Lookahead → ℕ → ℕ → List ℕ
+column_string One terminals c = choose (eqb c terminals) [] (c ∷ [])
+column_string Two terminals c = string_of Two c
 
 -- and the column of a string
-abbrev pub columnOf : Lookahead → ℕ → List ℕ → ℕ
-columnOf One terminals x = column terminals x
-columnOf Two terminals x = elementOf Two x
+abbrev pub column_of : Lookahead → ℕ → List ℕ → ℕ
+column_of One terminals x = column terminals x
+column_of Two terminals x = element_of Two x

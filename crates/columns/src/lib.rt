@@ -2,8 +2,8 @@
 // column for the lookahead string at a place of an input.
 ghost use Rattle.std.specs.Prelude.{◌≡◌};
 ghost use Rattle.event.specs.Events.{input_of};
-ghost use Rattle.columns.specs.Columns.{columnCount};
-ghost use Rattle.columns.specs.contracts.Columns.{columnElement, columnBefore, columnLast, columnEnd, columnAt};
+ghost use Rattle.columns.specs.Columns.{column_count};
+ghost use Rattle.columns.specs.inner.Columns.{column_element, column_before, column_last, column_end, column_at};
 
 use event::terminal_of;
 use grammar::limits::{COLUMNS_OF_TWO, TERMINALS_OF_TWO};
@@ -11,7 +11,7 @@ use lookahead::{Lookahead, NOTHING};
 
 // How many columns a row has.
 pub fn count(lookahead: Lookahead, terminals: u32) -> usize
-    ensures { result ≡ columnCount lookahead terminals }
+    ensures { result ≡ column_count lookahead terminals }
 {
     match lookahead {
         Lookahead::One => terminals as usize + 1,
@@ -21,7 +21,7 @@ pub fn count(lookahead: Lookahead, terminals: u32) -> usize
 
 // The element of a column.
 pub fn element(lookahead: Lookahead, terminals: u32, column: u32) -> u32
-    ensures { result ≡ columnElement lookahead terminals column }
+    ensures { result ≡ column_element lookahead terminals column }
 {
     match lookahead {
         Lookahead::One => { if column == terminals { NOTHING } else { column } }
@@ -36,7 +36,7 @@ const PAIR: u32 = LAST + TERMINALS_OF_TWO;
 
 // The column of a token that another follows.
 pub fn column_before(lookahead: Lookahead, token: u8, next: u8) -> u32
-    ensures { result ≡ columnBefore lookahead token next }
+    ensures { result ≡ column_before lookahead token next }
 {
     match lookahead {
         Lookahead::One => token as u32,
@@ -46,7 +46,7 @@ pub fn column_before(lookahead: Lookahead, token: u8, next: u8) -> u32
 
 // The column of a token that none follows.
 pub fn column_last(lookahead: Lookahead, token: u8) -> u32
-    ensures { result ≡ columnLast lookahead token }
+    ensures { result ≡ column_last lookahead token }
 {
     match lookahead {
         Lookahead::One => token as u32,
@@ -56,7 +56,7 @@ pub fn column_last(lookahead: Lookahead, token: u8) -> u32
 
 // The column of the end.
 pub fn column_end(lookahead: Lookahead, terminals: u32) -> u32
-    ensures { result ≡ columnEnd lookahead terminals }
+    ensures { result ≡ column_end lookahead terminals }
 {
     match lookahead {
         Lookahead::One => terminals,
@@ -66,7 +66,7 @@ pub fn column_end(lookahead: Lookahead, terminals: u32) -> u32
 
 // The column of the lookahead string at a place.
 pub fn column_at(events: &[u8], lookahead: Lookahead, terminals: u32, place: usize) -> u32
-    ensures { result ≡ columnAt lookahead terminals (input_of events.now) place }
+    ensures { result ≡ column_at lookahead terminals (input_of events.now) place }
 {
     if events.len() <= place {
         return column_end(lookahead, terminals);

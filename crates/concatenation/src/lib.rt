@@ -4,9 +4,9 @@ ghost use Rattle.base.specs.Choice.{choose};
 ghost use Rattle.lookahead.specs.declared.Lookahead.TheVariants.{One, Two};
 ghost use Rattle.lookahead.specs.Lookaheads.{elements, nothing};
 ghost use Rattle.lookahead.specs.Elements.{has};
-ghost use Rattle.lookahead.specs.contracts.Operations.{terminal, Full, Concatenated};
-ghost use Rattle.pair_rows.specs.contracts.Rows.{Has};
-ghost use Rattle.concatenation.specs.contracts.Computing.{Singles, isLong, AllLong};
+ghost use Rattle.lookahead.specs.inner.Operations.{terminal, Full, Concatenated};
+ghost use Rattle.pair_rows.specs.inner.Rows.{Has};
+ghost use Rattle.concatenation.specs.inner.Computing.{Singles, is_long, AllLong};
 
 use lookahead::{Lookahead, NOTHING, PAIRS, alphabet, element_count, nothing, single};
 use lookahead_sets::LookaheadSet;
@@ -24,7 +24,7 @@ fn strings(set: LookaheadSet, lookahead: Lookahead) -> LookaheadSet
 // The strings of as many tokens as are looked at: whatever follows, they stay.
 fn long(set: LookaheadSet, lookahead: Lookahead) -> LookaheadSet
     requires { set.bits < 2 ^ elements lookahead }
-    ensures { Has result.bits (λ l. has set.bits l && isLong lookahead l) }
+    ensures { Has result.bits (λ l. has set.bits l && is_long lookahead l) }
 {
     match lookahead {
         Lookahead::One => LookaheadSet {

@@ -1,6 +1,6 @@
 // The arrays that the descent reads, made before it starts: their sizes, and how the word of a token is made up.
 ghost use Rattle.std.specs.Prelude.{◌≡◌, min};
-ghost use Rattle.descent_arrays.specs.contracts.Arrays.{arrays};
+ghost use Rattle.descent_arrays.specs.inner.Arrays.{arrays};
 
 use grammar::limits::NONTERMINALS;
 

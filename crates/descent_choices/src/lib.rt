@@ -1,8 +1,8 @@
 // A choice of rules as the descent reads it: a row for each nonterminal, by the columns of the table.
 ghost use Rattle.std.specs.Prelude.{◌≡◌, ◌+◌, ◌<◌, get_or, set};
-ghost use Rattle.columns.specs.Columns.{columnCount};
-ghost use Rattle.descent_arrays.specs.contracts.Arrays.{choiceWords};
-ghost use Rattle.descent_choices.specs.contracts.Choices.{first_word, choiceRows, choicesOf, memoEntries, RowGiven};
+ghost use Rattle.columns.specs.Columns.{column_count};
+ghost use Rattle.descent_arrays.specs.inner.Arrays.{choice_words};
+ghost use Rattle.descent_choices.specs.inner.Choices.{first_word, choice_rows, choices_of, memo_entries, RowGiven};
 
 use columns::count;
 use descent_arrays::{CHOICE_COLUMNS, CHOICES, END_COLUMN, ROW_COLUMN, fitting};
@@ -12,7 +12,7 @@ use lookahead::Lookahead;
 
 // Writes where the first conjunct of a rule stands; where there is no rule, the 0 that is there already stays.
 fn write_choice(choices: &mut [u16; CHOICES], at: usize, starts: &[usize; RULES], rule: u8)
-    requires { (at < choiceWords) × (get_or choices.old at 0 ≡ 0) }
+    requires { (at < choice_words) × (get_or choices.old at 0 ≡ 0) }
     ensures { choices.new ≡ set choices.old at (first_word starts.now rule) }
 {
     if RULES <= rule as usize {
@@ -31,7 +31,7 @@ fn fill_row(
     tokens: usize,
 )
     requires { RowGiven starts.now columns entries.now tokens nonterminal choices.old }
-    ensures { choices.new ≡ choiceRows starts.now columns entries.now tokens (nonterminal + 1) }
+    ensures { choices.new ≡ choice_rows starts.now columns entries.now tokens (nonterminal + 1) }
 {
     let from = nonterminal * columns;
     let to = nonterminal * CHOICE_COLUMNS;
@@ -52,7 +52,7 @@ fn choices_of(
     entries: &[u8; ENTRIES],
     tokens: usize,
 ) -> [u16; CHOICES]
-    ensures { result ≡ choicesOf starts.now nonterminals columns entries.now tokens }
+    ensures { result ≡ choices_of starts.now nonterminals columns entries.now tokens }
 {
     let rows = fitting(nonterminals, NONTERMINALS as usize);
     let wide = fitting(columns, COLUMNS_OF_TWO);
@@ -74,7 +74,7 @@ pub fn table_choices<'a>(
     entries: &'a [u8; ENTRIES],
     tokens: usize,
 ) -> [u16; CHOICES]
-    ensures { result ≡ choicesOf starts.now sizes.nonterminals (columnCount lookahead sizes.terminals) entries.now tokens }
+    ensures { result ≡ choices_of starts.now sizes.nonterminals (column_count lookahead sizes.terminals) entries.now tokens }
 {
     let columns = count(lookahead, sizes.terminals);
     choices_of(
@@ -88,7 +88,7 @@ pub fn table_choices<'a>(
 
 // How many entries the memo table then has: a row for each nonterminal, of as many places.
 pub fn entries_of(nonterminals: u32, tokens: usize) -> usize
-    ensures { result ≡ memoEntries nonterminals tokens }
+    ensures { result ≡ memo_entries nonterminals tokens }
 {
     let rows = fitting(nonterminals as usize, NONTERMINALS as usize);
     let long = fitting(tokens, TOKENS);

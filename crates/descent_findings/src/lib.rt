@@ -2,10 +2,10 @@
 ghost use Rattle.std.specs.Prelude.{◌≡◌};
 ghost use Rattle.event.specs.Events.{input_of};
 ghost use Rattle.lookahead.specs.declared.Lookahead.TheVariants.{One};
-ghost use Rattle.promises.specs.contracts.Lengths.{withSearch};
-ghost use Rattle.table.specs.contracts.Analysis.{foundOf};
-ghost use Rattle.recognizer_promises.specs.contracts.Answers.{withMemo};
-ghost use Rattle.recognizer_promises.specs.contracts.Judging.{refound};
+ghost use Rattle.promises.specs.inner.Lengths.{with_search};
+ghost use Rattle.table.specs.inner.Analysis.{found_of};
+ghost use Rattle.recognizer_promises.specs.inner.Answers.{with_memo};
+ghost use Rattle.recognizer_promises.specs.inner.Judging.{refound};
 
 use families::SETS;
 use grammar::codes::NO_RULE;
@@ -17,8 +17,8 @@ use table::{Found, find_into};
 
 // For an input, in a lent memo table of so many entries.
 pub fn find_for_input(words: &[u32], lookahead: Lookahead, events: &[u8], memo: usize) -> Found
-    ensures { result ≡ refound (foundOf lookahead words.now)
-        (withMemo memo (foundOf lookahead words.now).finding (input_of events.now)) }
+    ensures { result ≡ refound (found_of lookahead words.now)
+        (with_memo memo (found_of lookahead words.now).finding (input_of events.now)) }
 {
     let mut starts = [0usize; RULES];
     let mut firsts = [0u64; SETS];
@@ -44,7 +44,7 @@ pub fn find_for_input(words: &[u32], lookahead: Lookahead, events: &[u8], memo: 
 
 // For all inputs of so many tokens, in a lent log and a lent memo table of so many bytes and entries.
 pub fn find_for_search(words: &[u32], tokens: usize, log: usize, memo: usize) -> Found
-    ensures { result ≡ refound (foundOf One words.now) (withSearch log memo (foundOf One words.now).finding tokens) }
+    ensures { result ≡ refound (found_of One words.now) (with_search log memo (found_of One words.now).finding tokens) }
 {
     let mut starts = [0usize; RULES];
     let mut firsts = [0u64; SETS];

@@ -1,6 +1,6 @@
 // What a descent starts from: what is found, the arrays that it reads, and a memo table in which no call is recorded.
 ghost use Rattle.std.specs.Prelude.{◌≡◌, length};
-ghost use Rattle.descent_preparation.specs.contracts.Preparation.{sizesOf, last_of, InputPrepared, SearchPrepared, TrialPrepared};
+ghost use Rattle.descent_preparation.specs.inner.Preparation.{sizes_of, last_of, InputPrepared, SearchPrepared, TrialPrepared};
 
 use descent_arrays::{CHOICES, fitting};
 use descent_choices::{entries_of, table_choices};
@@ -35,7 +35,7 @@ pub struct PreparedSearch {
 
 // The sizes of a grammar that passed; else of one that has nothing.
 fn sizes_of(finding: Finding) -> Sizes
-    ensures { result ≡ sizesOf finding }
+    ensures { result ≡ sizes_of finding }
 {
     match finding {
         Finding::Passed(sizes) => sizes,

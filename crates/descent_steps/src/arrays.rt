@@ -1,7 +1,7 @@
 // What a number tells that stands in the arrays of the descent.
 ghost use Rattle.std.specs.Prelude.{◌≡◌, ◌+◌, ◌/◌};
-ghost use Rattle.descent_arrays.specs.contracts.Arrays.{columnWeight};
-ghost use Rattle.descent_steps.specs.contracts.Steps.{endBehind};
+ghost use Rattle.descent_arrays.specs.inner.Arrays.{column_weight};
+ghost use Rattle.descent_steps.specs.inner.Steps.{end_behind};
 
 use descent_arrays::COLUMN_WEIGHT;
 use grammar::codes::FAILED;
@@ -14,7 +14,7 @@ const NUMBERS_OF_16_BITS: u32 = 65536;
 
 // One place on where the token, by its word, is this terminal, else the code of a failure.
 pub fn end_behind(token: u16, terminal: u32, place: u16) -> u16
-    ensures { result ≡ endBehind token terminal place }
+    ensures { result ≡ end_behind token terminal place }
 {
     if token as u32 % COLUMN_WEIGHT == terminal {
         return ((place as u32 + 1) % NUMBERS_OF_16_BITS) as u16;
@@ -24,7 +24,7 @@ pub fn end_behind(token: u16, terminal: u32, place: u16) -> u16
 
 // The column of the lookahead string at a token, by its word.
 pub fn column_of(token: u16) -> usize
-    ensures { result ≡ token / columnWeight }
+    ensures { result ≡ token / column_weight }
 {
     token as usize / WEIGHT
 }

@@ -1,7 +1,7 @@
 // What an entry tells: failed or an end, the outcome of a call or of a terminal.
 ghost use Rattle.std.specs.Prelude.{◌≡◌};
-ghost use Rattle.semantics.specs.contracts.Memo.{decode};
-ghost use Rattle.descent_steps.specs.contracts.Steps.{meant};
+ghost use Rattle.semantics.specs.inner.Memo.{decode};
+ghost use Rattle.descent_steps.specs.inner.Steps.{meant};
 
 use grammar::codes::FAILED;
 

@@ -2,9 +2,9 @@
 // has got.
 ghost use Rattle.std.specs.Prelude.{◌≡◌};
 ghost use Rattle.word.specs.Words.{decoded};
-ghost use Rattle.semantics.specs.contracts.Memo.{decode as outcomeOf};
-ghost use Rattle.rule.specs.contracts.Rule.{beginsBody, sign_of, openingBy, joinedBy, agreementCode, agreementOf};
-ghost use Rattle.descent_steps.specs.contracts.Steps.{symbolStep, step_of, word_at, conjunctSign, nextConjunct};
+ghost use Rattle.semantics.specs.inner.Memo.{decode as outcome_of};
+ghost use Rattle.rule.specs.inner.Rule.{begins_body, sign_of, opening_by, joined_by, agreement_code, agreement_of};
+ghost use Rattle.descent_steps.specs.inner.Steps.{symbol_step, step_of, word_at, conjunct_sign, next_conjunct};
 
 use grammar::codes::FAILED;
 use rule::{Sign, body_end, joined, opening};
@@ -28,7 +28,7 @@ pub enum Step {
 }
 
 fn symbol_step(symbol: Symbol) -> Step
-    ensures { result ≡ symbolStep symbol }
+    ensures { result ≡ symbol_step symbol }
 {
     match symbol {
         Symbol::Terminal(terminal) => Step::Terminal(terminal),
@@ -69,14 +69,14 @@ pub(crate) fn word_at(words: &[u32], at: usize) -> u32
 
 // Whether a word begins a conjunct. It is compared and not decoded: for each conjunct that is two instructions.
 pub(crate) fn begins_conjunct(bits: u32) -> bool
-    ensures { result ≡ beginsBody (sign_of (decoded bits)) }
+    ensures { result ≡ begins_body (sign_of (decoded bits)) }
 {
     bits == NEGATIVE_WORD || bits == POSITIVE_WORD
 }
 
 // What a word that begins a conjunct begins.
 fn conjunct_sign(bits: u32) -> Sign
-    ensures { result ≡ conjunctSign bits }
+    ensures { result ≡ conjunct_sign bits }
 {
     if bits == NEGATIVE_WORD {
         Sign::Negative
@@ -87,7 +87,7 @@ fn conjunct_sign(bits: u32) -> Sign
 
 // Where the next conjunct is, or the rule ends, when a body has stopped at an index: there, unless the body has failed.
 pub(crate) fn next_conjunct(words: &[u32], entry: u16, at: usize) -> usize
-    ensures { result ≡ nextConjunct words.now entry at }
+    ensures { result ≡ next_conjunct words.now entry at }
 {
     if entry != FAILED {
         return at;
@@ -97,14 +97,14 @@ pub(crate) fn next_conjunct(words: &[u32], entry: u16, at: usize) -> usize
 
 // The agreement before the first body, by the word that begins it and the place where the input ends.
 pub(crate) fn first_agreement(word: u32, end: u16) -> u16
-    ensures { result ≡ agreementCode (openingBy (conjunctSign word) end) }
+    ensures { result ≡ agreement_code (opening_by (conjunct_sign word) end) }
 {
     opening(conjunct_sign(word), end)
 }
 
 // The agreement after one body more, by the word that begins it and the entry of its outcome.
 pub(crate) fn joined_entry(word: u32, agreement: u16, entry: u16) -> u16
-    ensures { result ≡ agreementCode (joinedBy (conjunctSign word) (agreementOf agreement) (outcomeOf entry)) }
+    ensures { result ≡ agreement_code (joined_by (conjunct_sign word) (agreement_of agreement) (outcome_of entry)) }
 {
     joined(conjunct_sign(word), agreement, entry)
 }

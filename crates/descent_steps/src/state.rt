@@ -1,6 +1,6 @@
 // A rule that is run, body after body: how far it has got.
 ghost use Rattle.std.specs.Prelude.{◌≡◌};
-ghost use Rattle.descent_steps.specs.contracts.Steps.{firstState, goesFurther, nextState};
+ghost use Rattle.descent_steps.specs.inner.Steps.{first_state, goes_further, next_state};
 
 use super::{begins_conjunct, first_agreement, joined_entry, next_conjunct, word_at};
 use descent_arrays::{CHOICES, END_COLUMN};
@@ -18,7 +18,7 @@ pub struct RuleState {
 // Before the first body of the rule whose first conjunct stands at an index; 0 stands for no rule, and that has failed. The input's length is read
 // in the first row of the choices: every nonterminal's row has the same.
 pub fn first_state(words: &[u32], choices: &[u16; CHOICES], at: u16) -> RuleState
-    ensures { result ≡ firstState words.now choices.now at }
+    ensures { result ≡ first_state words.now choices.now at }
 {
     let first = at as usize;
     if first == 0 {
@@ -39,7 +39,7 @@ pub fn first_state(words: &[u32], choices: &[u16; CHOICES], at: u16) -> RuleStat
 
 // Whether a further body is run: a conjunct begins there, and the rule has not failed.
 pub fn goes_further(state: RuleState) -> bool
-    ensures { result ≡ goesFurther state }
+    ensures { result ≡ goes_further state }
 {
     if state.agreement == FAILED {
         return false;
@@ -49,7 +49,7 @@ pub fn goes_further(state: RuleState) -> bool
 
 // The state after that body, which stopped at an index; the entry is that of its outcome.
 pub fn next_state(words: &[u32], state: RuleState, entry: u16, at: usize) -> RuleState
-    ensures { result ≡ nextState words.now state entry at }
+    ensures { result ≡ next_state words.now state entry at }
 {
     let agreement = joined_entry(state.word, state.agreement, entry);
     if agreement == FAILED {

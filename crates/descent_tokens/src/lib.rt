@@ -1,7 +1,7 @@
 // The tokens as the descent reads them: a word for each place.
 ghost use Rattle.std.specs.Prelude.{◌≡◌};
 ghost use Rattle.event.specs.Events.{input_of};
-ghost use Rattle.descent_tokens.specs.contracts.Tokens.{tokenWord, tokensOf};
+ghost use Rattle.descent_tokens.specs.inner.Tokens.{token_word, tokens_of};
 
 use columns::{column_before, column_end, column_last};
 use descent_arrays::{COLUMN_WEIGHT, END_MARK, fitting};
@@ -11,7 +11,7 @@ use lookahead::Lookahead;
 
 // A terminal, or the mark of the end, with the column of its lookahead string, of which what fits is kept.
 fn word_of(column: u32, mark: u8) -> u16
-    ensures { result ≡ tokenWord column mark }
+    ensures { result ≡ token_word column mark }
 {
     (column % COLUMN_WEIGHT * COLUMN_WEIGHT + mark as u32) as u16
 }
@@ -19,7 +19,7 @@ fn word_of(column: u32, mark: u8) -> u16
 // The terminal of each event, and the column of the lookahead string there; behind the events, the end. Events that no place is left for
 // are ignored. The loop stops at the last token: before it, whether there is a next one needs no test, and the machine takes many at once.
 pub fn tokens_of(events: &[u8], lookahead: Lookahead, terminals: u32) -> [u16; PLACES]
-    ensures { result ≡ tokensOf lookahead terminals (input_of events.now) }
+    ensures { result ≡ tokens_of lookahead terminals (input_of events.now) }
 {
     let end = word_of(column_end(lookahead, terminals), END_MARK);
     let mut tokens = [end; PLACES];

@@ -16,47 +16,47 @@ use Rattle.tree_writer_promises.specs.declared.Shown.{Shown}
 use Rattle.tree_writer_promises.specs.Properties.{Shows}
 use Rattle.tabular_promises.specs.Properties.{TabularJudges}
 use Rattle.embed_promises.specs.Packing.{packed}
-use Rattle.embed_promises.specs.contracts.Packing.{cut}
-use Rattle.embed_promises.specs.contracts.Records.{HandedBack}
-use Rattle.embed_promises.specs.Records.{usagesIn, totalsRow}
+use Rattle.embed_promises.specs.inner.Packing.{cut}
+use Rattle.embed_promises.specs.inner.Records.{HandedBack}
+use Rattle.embed_promises.specs.Records.{usages_in, totals_row}
 use Rattle.embed_promises.specs.Exports.{CheckExported, JudgeExported, CostliestExported, ServedExported, TotalsExported, TreeExported, TabularExported}
 use Rattle.embed_promises.proofs.Packed.{packs}
-use Rattle.embed_promises.proofs.Fitting.{check-fits, judge-fits, costliest-fits, served-fits, tabular-fits, tree-fits}
+use Rattle.embed_promises.proofs.Fitting.{check_fits, judge_fits, costliest_fits, served_fits, tabular_fits, tree_fits}
 
-pub check-exported : {k : Lookahead} {words before after : List ℕ} {a : Answer} {r : ℕ} → Checks k words before a after → r ≡ packed (cut (numbers a))
+pub check_exported : {k : Lookahead} {words before after : List ℕ} {a : Answer} {r : ℕ} → Checks k words before a after → r ≡ packed (cut (numbers a))
     → CheckExported k words before r after
-check-exported {a = a} c e = record { result = a; promise = c; packs = packs (check-fits c) e }
+check_exported {a = a} c e = record { result = a; promise = c; packs = packs (check_fits c) e }
 
-pub judge-exported : {k : Lookahead} {words input table memo table' memo' : List ℕ} {a : Answer} {r : ℕ} → Judges k words input table memo a table' memo'
+pub judge_exported : {k : Lookahead} {words input table memo table' memo' : List ℕ} {a : Answer} {r : ℕ} → Judges k words input table memo a table' memo'
     → r ≡ packed (cut (numbers a))
     → JudgeExported k words input table memo r table' memo'
-judge-exported {a = a} j e = record { result = a; promise = j; packs = packs (judge-fits j) e }
+judge_exported {a = a} j e = record { result = a; promise = j; packs = packs (judge_fits j) e }
 
-pub costliest-exported : {words : List ℕ} {k : ℕ} {log table memo log' table' memo' : List ℕ} {a : Answer} {r : ℕ}
+pub costliest_exported : {words : List ℕ} {k : ℕ} {log table memo log' table' memo' : List ℕ} {a : Answer} {r : ℕ}
     → JudgesCostliest words k log table memo a log' table' memo' → r ≡ packed (cut (numbers a)) → CostliestExported words k log table memo r log' table' memo'
-costliest-exported {a = a} j e = record { result = a; promise = j; packs = packs (costliest-fits j) e }
+costliest_exported {a = a} j e = record { result = a; promise = j; packs = packs (costliest_fits j) e }
 
-pub served-exported : {client share limit : ℕ} {words input table memo table' memo' row row' : List ℕ} {us : List Usage} {x : Served} {r : ℕ}
-    → us ≡ usagesIn row
+pub served_exported : {client share limit : ℕ} {words input table memo table' memo' row row' : List ℕ} {us : List Usage} {x : Served} {r : ℕ}
+    → us ≡ usages_in row
     → JudgesFor client share limit words input table memo us x table' memo'
     → HandedBack x r row'
     → ServedExported client share limit words input table memo row r table' memo' row'
-served-exported {x = x} h j b = record {
-  exported = record { result = x; promise = rw h at j; packs = packs (served-fits j) b.packs };
+served_exported {x = x} h j b = record {
+  exported = record { result = x; promise = rw h at j; packs = packs (served_fits j) b.packs };
   written = b.written;
 }
 
-pub totals-exported : {row totals' : List ℕ} {us : List Usage} {t : Totals} → us ≡ usagesIn row → Totalled us t → totals' ≡ totalsRow t
+pub totals_exported : {row totals' : List ℕ} {us : List Usage} {t : Totals} → us ≡ usages_in row → Totalled us t → totals' ≡ totals_row t
     → TotalsExported row totals'
-totals-exported {t = t} h s w = record { totals = t; sums = rw h at s; written = w }
+totals_exported {t = t} h s w = record { totals = t; sums = rw h at s; written = w }
 
-pub tabular-exported : {words input before after : List ℕ} {a : Answer} {r : ℕ} → TabularJudges words input before a after → r ≡ packed (cut (numbers a))
+pub tabular_exported : {words input before after : List ℕ} {a : Answer} {r : ℕ} → TabularJudges words input before a after → r ≡ packed (cut (numbers a))
     → TabularExported words input before r after
-tabular-exported {a = a} j e = record { result = a; promise = j; packs = packs (tabular-fits j) e }
+tabular_exported {a = a} j e = record { result = a; promise = j; packs = packs (tabular_fits j) e }
 
-pub tree-exported : {words input table memo tree table' memo' tree' : List ℕ} {x : Shown} {r written' : ℕ}
+pub tree_exported : {words input table memo tree table' memo' tree' : List ℕ} {x : Shown} {r written' : ℕ}
     → Shows words input table memo tree x table' memo' tree'
     → written' ≡ x.written
     → r ≡ packed (cut (numbers x.answer))
     → TreeExported words input table memo tree r table' memo' tree' written'
-tree-exported {x = x} s w e = record { result = x; promise = (s, w); packs = packs (tree-fits s) e }
+tree_exported {x = x} s w e = record { result = x; promise = (s, w); packs = packs (tree_fits s) e }

@@ -9,48 +9,48 @@ use Rattle.answer.specs.Numbers.{numbers}
 use Rattle.lookahead.specs.declared.Lookahead.{Lookahead}
 use Rattle.event.specs.Events.{input_of}
 use Rattle.kept_input.specs.declared.KeptInput.{KeptInput}
-use Rattle.kept_steps.specs.Histories.{markCount, emptyInput, Step, ran}
-use Rattle.kept_marks.specs.Stored.{unsetCode, readMark, heldBy, values_of, progressOf}
-use Rattle.kept_input.specs.Held.{keptInput, heldInput}
-use Rattle.kept_marks.proofs.Storing.{held-stored}
-use Rattle.kept_steps.proofs.Soundness.{empty-sound}
+use Rattle.kept_steps.specs.Histories.{mark_count, empty_input, Step, ran}
+use Rattle.kept_marks.specs.Stored.{unset_code, read_mark, held_by, values_of, progress_of}
+use Rattle.kept_input.specs.Held.{kept_input, held_input}
+use Rattle.kept_marks.proofs.Storing.{held_stored}
+use Rattle.kept_steps.proofs.Soundness.{empty_sound}
 use Rattle.embed_promises.specs.Packing.{packed}
 use Rattle.embed_promises.specs.Exports.{JudgeExported}
-use Rattle.embed_promises.specs.Kept.{state_of, progressIn, StepExported, KeptExported}
-use Rattle.embed_promises.specs.KeptHistories.{heldIn, emptyState, zeroState, Calls, idle, next, HistoriesExported}
+use Rattle.embed_promises.specs.Kept.{state_of, progress_in, StepExported, KeptExported}
+use Rattle.embed_promises.specs.KeptHistories.{held_in, empty_state, zero_state, Calls, idle, next, HistoriesExported}
 
-empty-held : (events : List ℕ) → heldIn events emptyState ≡ emptyInput
-unfolding values_of progressOf
-empty-held events = held-stored events emptyInput empty-sound
+empty_held : (events : List ℕ) → held_in events empty_state ≡ empty_input
+unfolding values_of progress_of
+empty_held events = held_stored events empty_input empty_sound
 
-zero_held : (events : List ℕ) → (heldIn events zeroState).events ≡ []
-unfolding heldBy
+zero_held : (events : List ℕ) → (held_in events zero_state).events ≡ []
+unfolding held_by
 zero_held events = refl
 
-zero-marks : (events : List ℕ) (m : ℕ) → m < markCount → (heldIn events zeroState).marks m ≡ some 0
-unfolding heldBy
-zero-marks events m h = ap (readMark 0) (get_or-replicate markCount m 0 unsetCode h)
+zero_marks : (events : List ℕ) (m : ℕ) → m < mark_count → (held_in events zero_state).marks m ≡ some 0
+unfolding held_by
+zero_marks events m h = ap (read_mark 0) (get_or-replicate mark_count m 0 unset_code h)
 
 -- what a call leaves in the caller's memory is what the library's step hands back
-call-holds : {t : Step} {events state events' state' : List ℕ} {r : ℕ} → (s : StepExported t events state r events' state')
-    → heldIn events' state' ≡ heldInput s.changed.kept
-call-holds s = ap heldInput (same s.changed.kept s.events-written s.state-written)
+call_holds : {t : Step} {events state events' state' : List ℕ} {r : ℕ} → (s : StepExported t events state r events' state')
+    → held_in events' state' ≡ held_input s.changed.kept
+call_holds s = ap held_input (same s.changed.kept s.events_written s.state_written)
   where
-    same : (k : KeptInput) {events' state' : List ℕ} → events' ≡ k.events → state' ≡ state_of k.progress → keptInput events' (progressIn state') ≡ k
+    same : (k : KeptInput) {events' state' : List ℕ} → events' ≡ k.events → state' ≡ state_of k.progress → kept_input events' (progress_in state') ≡ k
     same k e f = rw (e, f) refl
 
-calls-hold : {events state events' state' : List ℕ} {l : List Step} → Calls events state l events' state' → heldIn events' state' ≡ ran l (heldIn events state)
+calls_hold : {events state events' state' : List ℕ} {l : List Step} → Calls events state l events' state' → held_in events' state' ≡ ran l (held_in events state)
 unfolding ran
-calls-hold idle = refl
-calls-hold (next {l = l} r s rest) = calls-hold rest ∙ ap (ran l) (call-holds s ∙ s.steps.holds)
+calls_hold idle = refl
+calls_hold (next {l = l} r s rest) = calls_hold rest ∙ ap (ran l) (call_holds s ∙ s.steps.holds)
 
-calls-judged : {k : Lookahead} {events events' state' : List ℕ} {l : List Step} → Calls events emptyState l events' state'
+calls_judged : {k : Lookahead} {events events' state' : List ℕ} {l : List Step} → Calls events empty_state l events' state'
     → {words table memo table' memo' table'' memo'' : List ℕ} {r s : ℕ} → KeptExported k words events' state' table memo r table' memo'
-    → JudgeExported k words (input_of (ran l emptyInput).events) table memo s table'' memo''
+    → JudgeExported k words (input_of (ran l empty_input).events) table memo s table'' memo''
     → (r ≡ s) × (table' ≡ table'') × (memo' ≡ memo'')
-calls-judged {events = events} {l = l} calls kept judged =
-    let same = kept.exported.promise.afresh l (calls-hold calls ∙ ap (ran l) (empty-held events)) _ _ _ judged.promise in
+calls_judged {events = events} {l = l} calls kept judged =
+    let same = kept.exported.promise.afresh l (calls_hold calls ∙ ap (ran l) (empty_held events)) _ _ _ judged.promise in
     (kept.exported.packs.number ∙ ap (λ (a : Answer). packed (numbers a)) same.0 ∙ sym judged.packs.number, same.1, same.2)
 
-pub histories-exported : HistoriesExported
-histories-exported = record { begins = empty-held; zeroed = zero_held; zero-set = zero-marks; holds = calls-hold; judged = calls-judged }
+pub histories_exported : HistoriesExported
+histories_exported = record { begins = empty_held; zeroed = zero_held; zero_set = zero_marks; holds = calls_hold; judged = calls_judged }

@@ -8,25 +8,25 @@ use Rattle.answer.specs.declared.Answer.{Answer}
 use Rattle.answer.specs.declared.Answer.TheVariants.{Refused, Passed, Rejected, Accepted}
 use Rattle.answer.specs.Numbers.{coded, Numbers, numbers}
 use Rattle.embed_promises.specs.Packing.{joined, packed, Unpacks, Packs}
-use Rattle.embed_promises.specs.contracts.Packing.{cut, NumbersFit}
+use Rattle.embed_promises.specs.inner.Packing.{cut, NumbersFit}
 
 module _ {a : Answer} {r : ℕ} where
-  pub refused-packed : {e : Error} {n p : ℕ} → a ≡ Refused e → n ≡ (coded e).code → p ≡ (coded e).position → r ≡ joined 0 (n % 256) (p % 65536) 0 0
+  pub refused_packed : {e : Error} {n p : ℕ} → a ≡ Refused e → n ≡ (coded e).code → p ≡ (coded e).position → r ≡ joined 0 (n % 256) (p % 65536) 0 0
       → r ≡ packed (cut (numbers a))
   unfolding packed
-  refused-packed q n p e = e ∙ rw (n, p, q)
+  refused_packed q n p e = e ∙ rw (n, p, q)
 
-  pub passed-packed : a ≡ Passed → r ≡ joined 1 0 0 0 0 → r ≡ packed (cut (numbers a))
+  pub passed_packed : a ≡ Passed → r ≡ joined 1 0 0 0 0 → r ≡ packed (cut (numbers a))
   unfolding packed
-  passed-packed q e = e ∙ rw q
+  passed_packed q e = e ∙ rw q
 
-  pub rejected-packed : {c : Calls} → a ≡ Rejected c → r ≡ joined 2 0 0 (c.count % 65536) (c.farthest % 65536) → r ≡ packed (cut (numbers a))
+  pub rejected_packed : {c : Calls} → a ≡ Rejected c → r ≡ joined 2 0 0 (c.count % 65536) (c.farthest % 65536) → r ≡ packed (cut (numbers a))
   unfolding packed
-  rejected-packed q e = e ∙ rw q
+  rejected_packed q e = e ∙ rw q
 
-  pub accepted-packed : {c : Calls} → a ≡ Accepted c → r ≡ joined 3 0 0 (c.count % 65536) (c.farthest % 65536) → r ≡ packed (cut (numbers a))
+  pub accepted_packed : {c : Calls} → a ≡ Accepted c → r ≡ joined 3 0 0 (c.count % 65536) (c.farthest % 65536) → r ≡ packed (cut (numbers a))
   unfolding packed
-  accepted-packed q e = e ∙ rw q
+  accepted_packed q e = e ∙ rw q
 
 -- what fits is not cut
 whole : (n : Numbers) → NumbersFit n → packed (cut n) ≡ packed n

@@ -13,7 +13,7 @@ use Rattle.tabular_promises.specs.Properties.{TabularJudges}
 use Rattle.tree_writer_promises.specs.declared.Shown.{Shown}
 use Rattle.tree_writer_promises.specs.Properties.{Shows}
 use Rattle.embed_promises.specs.Packing.{Packs}
-use Rattle.embed_promises.specs.Records.{usagesIn, totalsRow}
+use Rattle.embed_promises.specs.Records.{usages_in, totals_row}
 
 -- a call of the library keeps its promise of a result, and the number is the packed answer of that
 pub record Exported {Result : Type 0} (answer_of : Result → Answer) (Promise : Result → Type 0) (r : ℕ) : Type 0 where
@@ -36,8 +36,8 @@ TabularExported words input spans r spans' = Exported {Result = Answer} (λ a. a
 
 -- the clients' records are read from a row of the caller's and written back into it, so that the next call reads what this one handed back
 pub record ServedExported (client share limit : ℕ) (words input table memo row : List ℕ) (r : ℕ) (table' memo' row' : List ℕ) : Type 0 where
-  pub exported : Exported {Result = Served} (λ s. s.answer) (λ s. JudgesFor client share limit words input table memo (usagesIn row) s table' memo') r
-  pub written : usagesIn row' ≡ exported.result.usages
+  pub exported : Exported {Result = Served} (λ s. s.answer) (λ s. JudgesFor client share limit words input table memo (usages_in row) s table' memo') r
+  pub written : usages_in row' ≡ exported.result.usages
 
 -- the number of words that are written stands in a word of the caller's
 abbrev pub TreeExported : (words input table memo tree : List ℕ) (r : ℕ) (table' memo' tree' : List ℕ) (written' : ℕ) → Type 0
@@ -47,5 +47,5 @@ TreeExported words input table memo tree r table' memo' tree' written' =
 -- the totals of a row's records, in a row of the caller's
 pub record TotalsExported (row totals' : List ℕ) : Type 0 where
   pub totals : Totals
-  pub sums : Totalled (usagesIn row) totals
-  pub written : totals' ≡ totalsRow totals
+  pub sums : Totalled (usages_in row) totals
+  pub written : totals' ≡ totals_row totals

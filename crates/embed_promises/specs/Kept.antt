@@ -3,12 +3,12 @@ use Rattle.std.specs.Prelude.{◌≡◌, List, ◌∷◌, ℕ, length, get_or, d
 use Rattle.answer.specs.declared.Answer.{Answer}
 use Rattle.answer.specs.declared.Answer.TheVariants.{Refused}
 use Rattle.answer.specs.declared.Error.{Error}
-use Rattle.grammar.specs.Limits.{maxTokens}
+use Rattle.grammar.specs.Limits.{max_tokens}
 use Rattle.lookahead.specs.declared.Lookahead.{Lookahead}
 use Rattle.kept_marks.specs.declared.Progress.{Progress}
 use Rattle.kept_input.specs.declared.Changed.{Changed}
 use Rattle.kept_steps.specs.Histories.{Step, Add}
-use Rattle.kept_input.specs.Held.{keptInput}
+use Rattle.kept_input.specs.Held.{kept_input}
 use Rattle.kept_input.specs.Properties.{Steps, JudgesKept}
 use Rattle.embed_promises.specs.Packing.{Packs}
 use Rattle.embed_promises.specs.Exports.{Exported}
@@ -17,17 +17,17 @@ use Rattle.embed_promises.specs.Exports.{Exported}
 abbrev pub state_of : Progress → List ℕ
 state_of p = p.length ∷ p.marks
 
-abbrev pub progressIn : List ℕ → Progress
-progressIn l = record { length = get_or l 0 0; marks = drop 1 l }
+abbrev pub progress_in : List ℕ → Progress
+progress_in l = record { length = get_or l 0 0; marks = drop 1 l }
 
 -- a step on these events and this state
 pub record StepExported (t : Step) (events state : List ℕ) (r : ℕ) (events' state' : List ℕ) : Type 0 where
   pub changed : Changed
-  pub steps : Steps t (keptInput events (progressIn state)) changed
+  pub steps : Steps t (kept_input events (progress_in state)) changed
   pub packs : Packs r changed.answer
   -- what it hands back is written, and a refusal changes nothing
-  pub events-written : events' ≡ changed.kept.events
-  pub state-written : state' ≡ state_of changed.kept.progress
+  pub events_written : events' ≡ changed.kept.events
+  pub state_written : state' ≡ state_of changed.kept.progress
   pub unchanged : (e : Error) → changed.answer ≡ Refused e → (events' ≡ events) × (state' ≡ state)
 
 abbrev pub AddExported : ℕ → List ℕ → List ℕ → ℕ → List ℕ → List ℕ → Type 0
@@ -35,7 +35,7 @@ AddExported event = StepExported (Add event)
 
 -- a step that takes the state alone, whatever the events are
 pub record MoveExported (t : Step) (state : List ℕ) (r : ℕ) (state' : List ℕ) : Type 0 where
-  pub of-any-events : (events : List ℕ) → length events ≡ maxTokens → StepExported t events state r events state'
+  pub of_any_events : (events : List ℕ) → length events ≡ max_tokens → StepExported t events state r events state'
 
 pub record KeptExported (k : Lookahead) (words events state table memo : List ℕ) (r : ℕ) (table' memo' : List ℕ) : Type 0 where
-  pub exported : Exported {Result = Answer} (λ a. a) (λ a. JudgesKept k words (keptInput events (progressIn state)) table memo a table' memo') r
+  pub exported : Exported {Result = Answer} (λ a. a) (λ a. JudgesKept k words (kept_input events (progress_in state)) table memo a table' memo') r

@@ -3,4 +3,4 @@ pub mod Records
 pub mod Exports
 pub mod Kept
 pub mod KeptHistories
-pub mod contracts
+pub mod inner

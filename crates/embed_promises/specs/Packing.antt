@@ -4,21 +4,21 @@ use Rattle.std.specs.Prelude.{◌≡◌, ℕ, ◌+◌, ◌*◌, ◌/◌, ◌%◌
 use Rattle.answer.specs.declared.Answer.{Answer}
 use Rattle.answer.specs.Numbers.{Verdict, refused, passed, rejected, accepted, Numbers, numbers}
 
-abbrev pub verdictNumber : Verdict → ℕ
-verdictNumber refused = 0
-verdictNumber passed = 1
-verdictNumber rejected = 2
-verdictNumber accepted = 3
+abbrev pub verdict_number : Verdict → ℕ
+verdict_number refused = 0
+verdict_number passed = 1
+verdict_number rejected = 2
+verdict_number accepted = 3
 
 abbrev pub joined : ℕ → ℕ → ℕ → ℕ → ℕ → ℕ
 joined verdict code position count farthest = verdict + code * 256 + position * 65536 + count * 4294967296 + farthest * 281474976710656
 
 unfoldable pub packed : Numbers → ℕ
-packed n = joined (verdictNumber n.verdict) n.code n.position n.count n.farthest
+packed n = joined (verdict_number n.verdict) n.code n.position n.count n.farthest
 
 -- the bits of a packed answer give it back
 pub record Unpacks (r : ℕ) (n : Numbers) : Type 0 where
-  pub verdict : r % 256 ≡ verdictNumber n.verdict
+  pub verdict : r % 256 ≡ verdict_number n.verdict
   pub code : r / 256 % 256 ≡ n.code
   pub position : r / 65536 % 65536 ≡ n.position
   pub count : r / 4294967296 % 65536 ≡ n.count

@@ -1,13 +1,13 @@
 -- The words of document 01's cards are those of their grammars, by computation.
 use mathlib.Core.Path.{◌≡◌, refl}
-use Rattle.grammar.specs.examples.Cards.{grammarR, wordsR, grammarM, wordsM, grammarE, wordsE}
-use Rattle.encoding.specs.Encode.{bodyWords, conjunctWords, ruleWords, rulesWords, encode}
+use Rattle.grammar.specs.examples.Cards.{grammar_r, words_r, grammar_m, words_m, grammar_e, words_e}
+use Rattle.encoding.specs.Encode.{body_words, conjunct_words, rule_words, rules_words, encode}
 
 pub record CardWords : Type 0 where
-  pub r : encode grammarR ≡ wordsR
-  pub m : encode grammarM ≡ wordsM
-  pub e : encode grammarE ≡ wordsE
+  pub r : encode grammar_r ≡ words_r
+  pub m : encode grammar_m ≡ words_m
+  pub e : encode grammar_e ≡ words_e
 
-pub card-words : CardWords
-unfolding encode rulesWords ruleWords conjunctWords bodyWords
-card-words = record { r = refl; m = refl; e = refl }
+pub card_words : CardWords
+unfolding encode rules_words rule_words conjunct_words body_words
+card_words = record { r = refl; m = refl; e = refl }

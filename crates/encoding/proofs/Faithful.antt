@@ -7,13 +7,13 @@ use Rattle.grammar.specs.declared.reading.Reading.{Reading}
 use Rattle.grammar.specs.Reading.{reading}
 use Rattle.encoding.specs.Diagnosis.{Diagnosis}
 use Rattle.encoding.specs.Faithful.{FaithfulReading}
-use Rattle.encoding.proofs.Decoding.{encodes-grammar}
-use Rattle.encoding.proofs.Diagnosis.{diagnosed-reading}
-use Rattle.encoding.proofs.OneDiagnosis.{one-diagnosis}
+use Rattle.encoding.proofs.Decoding.{encodes_grammar}
+use Rattle.encoding.proofs.Diagnosis.{diagnosed_reading}
+use Rattle.encoding.proofs.OneDiagnosis.{one_diagnosis}
 
 -- a reading finds what there is to tell, and nothing else
-pub reading-diagnosed : (words : List ℕ) (o : Reading) → (reading words ≡ o) ↔ Diagnosis words o
-reading-diagnosed words o = (λ e. rw e at (diagnosed-reading words), λ d. one-diagnosis words (reading words) o (diagnosed-reading words) d)
+pub reading_diagnosed : (words : List ℕ) (o : Reading) → (reading words ≡ o) ↔ Diagnosis words o
+reading_diagnosed words o = (λ e. rw e at (diagnosed_reading words), λ d. one_diagnosis words (reading words) o (diagnosed_reading words) d)
 
 pub faithful : (words : List ℕ) → FaithfulReading words
-faithful words = record { outcome = reading-diagnosed words; grammar = encodes-grammar words }
+faithful words = record { outcome = reading_diagnosed words; grammar = encodes_grammar words }

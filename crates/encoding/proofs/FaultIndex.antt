@@ -15,14 +15,14 @@ use Rattle.grammar.specs.declared.reading.Progress.{Progress}
 use Rattle.grammar.specs.declared.reading.Step.TheVariants.{Go, Stop}
 use Rattle.grammar.specs.declared.reading.Reading.TheVariants.{Read}
 use Rattle.grammar.specs.Syntax.{Grammar}
-use Rattle.grammar.specs.Encoding.{grammarOf}
-use Rattle.grammar.specs.Reading.{symbolInRange, stepped, scan, opened}
-use Rattle.encoding.specs.Encode.{symbolWord, end_word, sizesOf, Encodes}
+use Rattle.grammar.specs.Encoding.{grammar_of}
+use Rattle.grammar.specs.Reading.{symbol_in_range, stepped, scan, opened}
+use Rattle.encoding.specs.Encode.{symbol_word, end_word, sizes_of, Encodes}
 use Rattle.encoding.specs.Diagnosis.{BeginsEncoding}
-use Rattle.grammar.proofs.WellFormed.{never, step-passed, onward}
-use Rattle.encoding.proofs.Words.{decoded-end}
-use Rattle.encoding.proofs.EncodingRead.{Within, Between, within-between, goes-word, end_goes}
-use Rattle.encoding.proofs.ReadingEncodes.{opened-encodes, encodes-opened}
+use Rattle.grammar.proofs.WellFormed.{never, step_passed, onward}
+use Rattle.encoding.proofs.Words.{decoded_end}
+use Rattle.encoding.proofs.EncodingRead.{Within, Between, within_between, goes_word, end_goes}
+use Rattle.encoding.proofs.ReadingEncodes.{opened_encodes, encodes_opened}
 use Rattle.encoding.proofs.Faults.{completion, complete}
 
 -- the index of a fault behind the heading
@@ -31,13 +31,13 @@ pub record Place (words : List ℕ) (i : ℕ) (x : Error) : Type 0 where
   pub opens : (us : List ℕ) → opened (take i words ++ us) ≡ scan come i us
   pub behind : 0 < i
   pub among : i ≤ length words
-  pub someNonterminal : 0 < come.sizes.nonterminals
-  pub someTerminal : 0 < come.sizes.terminals
+  pub some_nonterminal : 0 < come.sizes.nonterminals
+  pub some_terminal : 0 < come.sizes.terminals
   pub word : i < length words → stepped (decoded (get_or words i 0)) come i ≡ Stop x
   pub end : i ≡ length words → x ≡ UnexpectedWord i
 
 pub begins : (ws rest : List ℕ) (z : Sizes) → opened (ws ++ rest) ≡ Read z → BeginsEncoding ws
-begins ws rest z e = record { rest = rest; grammar = grammarOf (ws ++ rest); encodes = (opened-encodes (ws ++ rest) z e).0 }
+begins ws rest z e = record { rest = rest; grammar = grammar_of (ws ++ rest); encodes = (opened_encodes (ws ++ rest) z e).0 }
 
 -- a fault at an index, by the words before it and the word at it
 module _ (words : List ℕ) (i : ℕ) (x : Error) (h : Place words i x) where
@@ -47,13 +47,13 @@ module _ (words : List ℕ) (i : ℕ) (x : Error) (h : Place words i x) where
       begins (take i words) rest h.come.sizes (h.opens rest ∙ complete h.come.state h.come.sizes i)
 
   -- the words before the index, and behind them others that make an encoding
-  scanned : (us : List ℕ) (G : Grammar) → Encodes (take i words ++ us) G → scan h.come i us ≡ Read (sizesOf G)
-  scanned us G e = sym (h.opens us) ∙ encodes-opened (take i words ++ us) G e
+  scanned : (us : List ℕ) (G : Grammar) → Encodes (take i words ++ us) G → scan h.come i us ≡ Read (sizes_of G)
+  scanned us G e = sym (h.opens us) ∙ encodes_opened (take i words ++ us) G e
 
   -- a word that goes on
   goes_on : (w : ℕ) (us : List ℕ) (G : Grammar) → Encodes (take i words ++ (w ∷ us)) G → (q : Progress) × (stepped (decoded w) h.come i ≡ Go q)
   unfolding scan
-  goes_on w us G e = let g = onward (stepped (decoded w) h.come i) (λ q. scan q (suc i) us) (sizesOf G) (scanned (w ∷ us) G e) in (g.0, g.1)
+  goes_on w us G e = let g = onward (stepped (decoded w) h.come i) (λ q. scan q (suc i) us) (sizes_of G) (scanned (w ∷ us) G e) in (g.0, g.1)
 
   pub stuck : i < length words → BeginsEncoding (take (suc i) words) → ⊥
   stuck l b =
@@ -66,25 +66,25 @@ module _ (words : List ℕ) (i : ℕ) (x : Error) (h : Place words i x) where
       clash g = never x g.0 (sym (h.word l) ∙ g.1)
 
   -- a rule may begin where the grammar may end, and a symbol stand where another of its kind may
-  pub may-end : Between h.come.state → opened (take i words ++ (end_word ∷ [])) ≡ Read h.come.sizes
-  may-end a = h.opens (end_word ∷ []) ∙ end_goes h.come.state h.come.sizes a i
+  pub may_end : Between h.come.state → opened (take i words ++ (end_word ∷ [])) ≡ Read h.come.sizes
+  may_end a = h.opens (end_word ∷ []) ∙ end_goes h.come.state h.come.sizes a i
 
-  pub may-stand : (X : symbol.Symbol) → decoded (symbolWord X) ≡ Symbol X → Within h.come.state → symbolInRange X h.come.sizes ≡ true
-      → (b : BeginsEncoding (take i words ++ (symbolWord X ∷ []))) × (h.come.sizes ≡ sizesOf b.grammar)
-  may-stand X d a r =
-      let e = opened-encodes ((take i words ++ (symbolWord X ∷ [])) ++ (end_word ∷ [])) h.come.sizes
-      (rw (append_assoc (take i words) (symbolWord X ∷ []) (end_word ∷ []))
-      (h.opens (symbolWord X ∷ end_word ∷ [])
-      ∙ goes-word (symbolWord X) (Symbol X) h.come.state h.come.sizes h.come.sizes (end_word ∷ []) d a r refl
-      (end_goes h.come.state h.come.sizes (within-between h.come.state a)) i)) in
-      (record { rest = end_word ∷ []; grammar = grammarOf ((take i words ++ (symbolWord X ∷ [])) ++ (end_word ∷ [])); encodes = e.0 }, e.1)
+  pub may_stand : (X : symbol.Symbol) → decoded (symbol_word X) ≡ Symbol X → Within h.come.state → symbol_in_range X h.come.sizes ≡ true
+      → (b : BeginsEncoding (take i words ++ (symbol_word X ∷ []))) × (h.come.sizes ≡ sizes_of b.grammar)
+  may_stand X d a r =
+      let e = opened_encodes ((take i words ++ (symbol_word X ∷ [])) ++ (end_word ∷ [])) h.come.sizes
+      (rw (append_assoc (take i words) (symbol_word X ∷ []) (end_word ∷ []))
+      (h.opens (symbol_word X ∷ end_word ∷ [])
+      ∙ goes_word (symbol_word X) (Symbol X) h.come.state h.come.sizes h.come.sizes (end_word ∷ []) d a r refl
+      (end_goes h.come.state h.come.sizes (within_between h.come.state a)) i)) in
+      (record { rest = end_word ∷ []; grammar = grammar_of ((take i words ++ (symbol_word X ∷ [])) ++ (end_word ∷ [])); encodes = e.0 }, e.1)
 
-  pub may-begin : (G : Grammar) → Encodes (take i words ++ (end_word ∷ [])) G → Between h.come.state
-  may-begin G e = let g = goes_on end_word [] G e in rw decoded-end at (step-passed (decoded end_word) h.come g.0 i g.1).allowed
+  pub may_begin : (G : Grammar) → Encodes (take i words ++ (end_word ∷ [])) G → Between h.come.state
+  may_begin G e = let g = goes_on end_word [] G e in rw decoded_end at (step_passed (decoded end_word) h.come g.0 i g.1).allowed
 
-  pub may-follow : (X : symbol.Symbol) → decoded (symbolWord X) ≡ Symbol X → BeginsEncoding (take i words ++ (symbolWord X ∷ []))
+  pub may_follow : (X : symbol.Symbol) → decoded (symbol_word X) ≡ Symbol X → BeginsEncoding (take i words ++ (symbol_word X ∷ []))
       → Within h.come.state
-  may-follow X d b =
-      let e : Encodes (take i words ++ (symbolWord X ∷ b.rest)) b.grammar = rw (← append_assoc (take i words) (symbolWord X ∷ []) b.rest) b.encodes in
-      let g = goes_on (symbolWord X) b.rest b.grammar e in
-      rw d at (step-passed (decoded (symbolWord X)) h.come g.0 i g.1).allowed
+  may_follow X d b =
+      let e : Encodes (take i words ++ (symbol_word X ∷ b.rest)) b.grammar = rw (← append_assoc (take i words) (symbol_word X ∷ []) b.rest) b.encodes in
+      let g = goes_on (symbol_word X) b.rest b.grammar e in
+      rw d at (step_passed (decoded (symbol_word X)) h.come g.0 i g.1).allowed

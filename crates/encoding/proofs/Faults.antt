@@ -19,56 +19,56 @@ use Rattle.grammar.specs.declared.reading.Progress.{Progress}
 use Rattle.grammar.specs.declared.reading.Step.{Step}
 use Rattle.grammar.specs.declared.reading.Step.TheVariants.{Go, Stop}
 use Rattle.grammar.specs.declared.reading.Reading.TheVariants.{Read, Faulty}
-use Rattle.grammar.specs.Limits.{maxRules}
-use Rattle.grammar.specs.Reading.{row, progress, counted, stepped, onStep, finished, scan}
-use Rattle.encoding.specs.Encode.{positiveWord, end_word}
-use Rattle.grammar.proofs.Scanning.{stepped-rule, stepped-other, Stepped, stepping}
-use Rattle.grammar.proofs.WellFormed.{faulty, never, step-passed}
-use Rattle.encoding.proofs.Words.{decoded-positive}
-use Rattle.encoding.proofs.EncodingRead.{Goes, goes-word, closed-goes, end_goes}
+use Rattle.grammar.specs.Limits.{max_rules}
+use Rattle.grammar.specs.Reading.{row, progress, counted, stepped, on_step, finished, scan}
+use Rattle.encoding.specs.Encode.{positive_word, end_word}
+use Rattle.grammar.proofs.Scanning.{stepped_rule, stepped_other, Stepped, stepping}
+use Rattle.grammar.proofs.WellFormed.{faulty, never, step_passed}
+use Rattle.encoding.proofs.Words.{decoded_positive}
+use Rattle.encoding.proofs.EncodingRead.{Goes, goes_word, closed_goes, end_goes}
 
 -- from every index there is a way to the end, of no more than a positive and the end
 abbrev pub completion : State → List ℕ
 completion Before = end_word ∷ []
-completion Opened = positiveWord ∷ end_word ∷ []
+completion Opened = positive_word ∷ end_word ∷ []
 completion InPositive = end_word ∷ []
 completion InNegative = end_word ∷ []
 completion Closed = []
 
 pub complete : (s : State) (y : Sizes) → Goes (progress s y) (completion s) y
 complete Before y = end_goes Before y refl
-complete Opened y = goes-word positiveWord Positive Opened y y (end_word ∷ []) decoded-positive refl refl refl (end_goes InPositive y refl)
+complete Opened y = goes_word positive_word Positive Opened y y (end_word ∷ []) decoded_positive refl refl refl (end_goes InPositive y refl)
 complete InPositive y = end_goes InPositive y refl
 complete InNegative y = end_goes InNegative y refl
-complete Closed y = closed-goes y
+complete Closed y = closed_goes y
 
-pub stop-same : (x y : Error) → Stop x ≡ Stop y → y ≡ x
-stop-same x y e = cc
+pub stop_same : (x y : Error) → Stop x ≡ Stop y → y ≡ x
+stop_same x y e = cc
 
-faulty-same : (x y : Error) → Faulty x ≡ Faulty y → y ≡ x
-faulty-same x y e = cc
+faulty_same : (x y : Error) → Faulty x ≡ Faulty y → y ≡ x
+faulty_same x y e = cc
 
 -- a word that goes on does so wherever it stands
-pub goes-anywhere : (w : Word) (p q : Progress) (at j : ℕ) → stepped w p at ≡ Go q → stepped w p j ≡ Go q
+pub goes_anywhere : (w : Word) (p q : Progress) (at j : ℕ) → stepped w p at ≡ Go q → stepped w p j ≡ Go q
 unfolding counted
-goes-anywhere w p q at j e = go (stepped w p at) (stepping w p at) e
+goes_anywhere w p q at j e = go (stepped w p at) (stepping w p at) e
   where
     go : (t : Step) → Stepped w p at t → t ≡ Go q → stepped w p j ≡ Go q
     go _ (Stepped.unexpected a) g = absurd (never (UnexpectedWord at) q g)
-    go _ (Stepped.outOfRange a i) g = absurd (never (OutOfRange at) q g)
-    go _ (Stepped.tooMany a i b l) g = absurd (never (TooManyRules at) q g)
-    go _ (Stepped.rule a i b l) g = rw (stepped-rule w p j a i b, lt-leb maxRules p.sizes.rules l) g
-    go _ (Stepped.other a i b) g = rw (stepped-other w p j a i b) g
+    go _ (Stepped.out_of_range a i) g = absurd (never (OutOfRange at) q g)
+    go _ (Stepped.too_many a i b l) g = absurd (never (TooManyRules at) q g)
+    go _ (Stepped.rule a i b l) g = rw (stepped_rule w p j a i b, lt-leb max_rules p.sizes.rules l) g
+    go _ (Stepped.other a i b) g = rw (stepped_other w p j a i b) g
 
-end-missing : (p : Progress) (at : ℕ) (x : Error) → finished p at ≡ Faulty x → x ≡ UnexpectedWord at
+end_missing : (p : Progress) (at : ℕ) (x : Error) → finished p at ≡ Faulty x → x ≡ UnexpectedWord at
 unfolding finished
-end-missing p at x e = go p.state e
+end_missing p at x e = go p.state e
   where
     go : (s : State) → choose (row false false false false true s) (Read p.sizes) (Faulty (UnexpectedWord at)) ≡ Faulty x → x ≡ UnexpectedWord at
-    go Before e = faulty-same (UnexpectedWord at) x e
-    go Opened e = faulty-same (UnexpectedWord at) x e
-    go InPositive e = faulty-same (UnexpectedWord at) x e
-    go InNegative e = faulty-same (UnexpectedWord at) x e
+    go Before e = faulty_same (UnexpectedWord at) x e
+    go Opened e = faulty_same (UnexpectedWord at) x e
+    go InPositive e = faulty_same (UnexpectedWord at) x e
+    go InNegative e = faulty_same (UnexpectedWord at) x e
     go Closed e = absurd (faulty x p.sizes (sym e))
 
 -- before the fault there are so many words, which lead to `come` whatever follows them
@@ -83,7 +83,7 @@ pub record Faults (p : Progress) (at : ℕ) (ws : List ℕ) (x : Error) : Type 0
   pub end : before ≡ length ws → x ≡ UnexpectedWord (at + before)
 
 pub faults : (p : Progress) (at : ℕ) (ws : List ℕ) (x : Error) → scan p at ws ≡ Faulty x → Faults p at ws x
-unfolding scan onStep
+unfolding scan on_step
 faults p at [] x e = record {
   before = 0;
   come = p;
@@ -92,11 +92,11 @@ faults p at [] x e = record {
   terminals = refl;
   among = omega arith;
   word = λ l. absurd (omega arith);
-  end = λ _. let n : at + 0 ≡ at = omega arith in rw n (end-missing p at x e);
+  end = λ _. let n : at + 0 ≡ at = omega arith in rw n (end_missing p at x e);
 }
 faults p at (w ∷ ws) x e = go (stepped (decoded w) p at) refl e (λ q. faults q (suc at) ws x)
   where
-    go : (t : Step) → stepped (decoded w) p at ≡ t → onStep t (λ q. scan q (suc at) ws) ≡ Faulty x
+    go : (t : Step) → stepped (decoded w) p at ≡ t → on_step t (λ q. scan q (suc at) ws) ≡ Faulty x
         → ((q : Progress) → scan q (suc at) ws ≡ Faulty x → Faults q (suc at) ws x) → Faults p at (w ∷ ws) x
     go (Stop y) t e f = record {
       before = 0;
@@ -105,18 +105,18 @@ faults p at (w ∷ ws) x e = go (stepped (decoded w) p at) refl e (λ q. faults 
       nonterminals = refl;
       terminals = refl;
       among = omega arith;
-      word = λ _. let n : at + 0 ≡ at = omega arith in rw (n, faulty-same y x e) t;
+      word = λ _. let n : at + 0 ≡ at = omega arith in rw (n, faulty_same y x e) t;
       end = λ e. absurd (omega arith);
     }
     go (Go q) t e f =
         let h = f q e in
-        let k = step-passed (decoded w) p q at t in
+        let k = step_passed (decoded w) p q at t in
         let n : at + suc h.before ≡ suc at + h.before = omega arith in
         record {
           before = suc h.before;
           come = h.come;
           through = λ us j. let n : j + suc h.before ≡ suc j + h.before = omega arith in
-              rw (n, goes-anywhere (decoded w) p q at j t) (h.through us (suc j));
+              rw (n, goes_anywhere (decoded w) p q at j t) (h.through us (suc j));
           nonterminals = h.nonterminals ∙ k.nonterminals;
           terminals = h.terminals ∙ k.terminals;
           among = omega (arith, h.among);

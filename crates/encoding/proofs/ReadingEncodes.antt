@@ -17,20 +17,20 @@ use Rattle.grammar.specs.declared.reading.State.TheVariants.{Before, Opened, InP
 use Rattle.grammar.specs.declared.reading.Sizes.{Sizes}
 use Rattle.grammar.specs.declared.reading.Progress.{Progress}
 use Rattle.grammar.specs.declared.reading.Reading.TheVariants.{Read}
-use Rattle.grammar.specs.Limits.{maxWords, maxNonterminals, maxTerminals}
+use Rattle.grammar.specs.Limits.{max_words, max_nonterminals, max_terminals}
 use Rattle.grammar.specs.Syntax.{Grammar}
-use Rattle.grammar.specs.Encoding.{Parsed, on_word, parse, sizes, declared_by, grammarOf}
-use Rattle.grammar.specs.Reading.{row, allows, stateAfter, stepped, scan, fresh, isWithin, headed, opened, reading}
-use Rattle.encoding.specs.Encode.{headingWord, positiveWord, negativeWord, end_word, bodyWords, conjunctWords, ruleWords, rulesWords, encode, sizesOf}
+use Rattle.grammar.specs.Encoding.{Parsed, on_word, parse, sizes, declared_by, grammar_of}
+use Rattle.grammar.specs.Reading.{row, allows, state_after, stepped, scan, fresh, is_within, headed, opened, reading}
+use Rattle.encoding.specs.Encode.{heading_word, positive_word, negative_word, end_word, body_words, conjunct_words, rule_words, rules_words, encode, sizes_of}
 use Rattle.encoding.specs.Encode.{Encodes}
-use Rattle.grammar.proofs.WellFormed.{faulty, finished-read, Empty, Shape, Reads, reads, step-passed, onward}
-use Rattle.grammar.proofs.WellRead.{chosen, refused, both, Within, within-limits, fit-formed, declares-no-rules}
+use Rattle.grammar.proofs.WellFormed.{faulty, finished_read, Empty, Shape, Reads, reads, step_passed, onward}
+use Rattle.grammar.proofs.WellRead.{chosen, refused, both, Within, within_limits, fit_formed, declares_no_rules}
 use Rattle.encoding.proofs.Words.{WrittenAs, written_as}
-use Rattle.encoding.proofs.EncodingRead.{encode-opened}
+use Rattle.encoding.proofs.EncodingRead.{encode_opened}
 
 -- the words of what a row says: of a rule that began before it, the rest of a body and the conjuncts left, then the rules that begin in it
 unfoldable unparse : Parsed → List ℕ
-unparse p = bodyWords p.body (conjunctWords positiveWord p.positives (conjunctWords negativeWord p.negatives (rulesWords p.rules (end_word ∷ []))))
+unparse p = body_words p.body (conjunct_words positive_word p.positives (conjunct_words negative_word p.negatives (rules_words p.rules (end_word ∷ []))))
 
 -- the words from an index on are those of what they say; behind the end there are none
 abbrev Unparsed : State → List ℕ → Type 0
@@ -40,32 +40,32 @@ Unparsed InPositive ws = ws ≡ unparse (parse ws)
 Unparsed InNegative ws = ws ≡ unparse (parse ws)
 Unparsed Closed ws = ws ≡ []
 
-unparsed-within : (s : State) (ws : List ℕ) → row false false true true false s ≡ true → Unparsed s ws → ws ≡ unparse (parse ws)
-unparsed-within Before ws a l = absurd (false≢true a)
-unparsed-within Opened ws a l = absurd (false≢true a)
-unparsed-within InPositive ws a l = l
-unparsed-within InNegative ws a l = l
-unparsed-within Closed ws a l = absurd (false≢true a)
+unparsed_within : (s : State) (ws : List ℕ) → row false false true true false s ≡ true → Unparsed s ws → ws ≡ unparse (parse ws)
+unparsed_within Before ws a l = absurd (false≢true a)
+unparsed_within Opened ws a l = absurd (false≢true a)
+unparsed_within InPositive ws a l = l
+unparsed_within InNegative ws a l = l
+unparsed_within Closed ws a l = absurd (false≢true a)
 
 -- one word more in front
-unparsed-word : (v : Word) (w : ℕ) (s : State) (ws : List ℕ) → WrittenAs v w → allows v s ≡ true → Shape (stateAfter v s) (parse ws)
-    → Unparsed (stateAfter v s) ws
+unparsed_word : (v : Word) (w : ℕ) (s : State) (ws : List ℕ) → WrittenAs v w → allows v s ≡ true → Shape (state_after v s) (parse ws)
+    → Unparsed (state_after v s) ws
     → w ∷ ws ≡ unparse (on_word v (parse ws))
-unfolding unparse on_word bodyWords conjunctWords ruleWords rulesWords parse
-unparsed-word (RuleWord A) w s ws f a h l = cc (rw h.0 at l)
-unparsed-word Positive w s ws f a h l = cc
-unparsed-word Negative w s ws f a h l = rw h (cc)
-unparsed-word (Symbol X) w s ws f a h l = cc (unparsed-within s ws a l)
-unparsed-word End w s ws f a h l = rw (l, f)
-unparsed-word (Heading n t) w s ws f a h l = absurd (false≢true a)
-unparsed-word Invalid w s ws f a h l = absurd (false≢true a)
+unfolding unparse on_word body_words conjunct_words rule_words rules_words parse
+unparsed_word (RuleWord A) w s ws f a h l = cc (rw h.0 at l)
+unparsed_word Positive w s ws f a h l = cc
+unparsed_word Negative w s ws f a h l = rw h (cc)
+unparsed_word (Symbol X) w s ws f a h l = cc (unparsed_within s ws a l)
+unparsed_word End w s ws f a h l = rw (l, f)
+unparsed_word (Heading n t) w s ws f a h l = absurd (false≢true a)
+unparsed_word Invalid w s ws f a h l = absurd (false≢true a)
 
-unparsed-allowed : (v : Word) (s : State) (ws : List ℕ) → allows v s ≡ true → ws ≡ unparse (parse ws) → Unparsed s ws
-unparsed-allowed v Before ws a e = e
-unparsed-allowed v Opened ws a e = e
-unparsed-allowed v InPositive ws a e = e
-unparsed-allowed v InNegative ws a e = e
-unparsed-allowed v Closed ws a e = absurd (false≢true (sym (closed v) ∙ a))
+unparsed_allowed : (v : Word) (s : State) (ws : List ℕ) → allows v s ≡ true → ws ≡ unparse (parse ws) → Unparsed s ws
+unparsed_allowed v Before ws a e = e
+unparsed_allowed v Opened ws a e = e
+unparsed_allowed v InPositive ws a e = e
+unparsed_allowed v InNegative ws a e = e
+unparsed_allowed v Closed ws a e = absurd (false≢true (sym (closed v) ∙ a))
   where
     closed : (v : Word) → allows v Closed ≡ false
     closed (RuleWord A) = refl
@@ -78,103 +78,103 @@ unparsed-allowed v Closed ws a e = absurd (false≢true (sym (closed v) ∙ a))
 
 unparsed : (p : Progress) (at : ℕ) (ws : List ℕ) (z : Sizes) → scan p at ws ≡ Read z → Unparsed p.state ws
 unfolding scan parse
-unparsed p at [] z e = rw (finished-read p at z e).0 refl
+unparsed p at [] z e = rw (finished_read p at z e).0 refl
 unparsed p at (w ∷ ws) z e =
     let g = onward (stepped (decoded w) p at) (λ q. scan q (suc at) ws) z e in
-    let k = step-passed (decoded w) p g.0 at g.1 in
+    let k = step_passed (decoded w) p g.0 at g.1 in
     let r = reads g.0 (suc at) ws z g.2 in
-    unparsed-allowed (decoded w) p.state (w ∷ ws) k.allowed
-    (unparsed-word (decoded w) w p.state ws (written_as w) k.allowed (rw k.state at r.fits.shape)
+    unparsed_allowed (decoded w) p.state (w ∷ ws) k.allowed
+    (unparsed_word (decoded w) w p.state ws (written_as w) k.allowed (rw k.state at r.fits.shape)
     (rw k.state at (unparsed g.0 (suc at) ws z g.2)))
 
 -- a word that declares nonterminals is the heading of what it declares
-heading-written : (v : Word) (w : ℕ) → 0 < (declared_by v).nonterminals → WrittenAs v w
-    → w ≡ headingWord (declared_by v).nonterminals (declared_by v).terminals
-heading-written (Heading n t) w h f = f
-heading-written (RuleWord A) w h f = absurd (omega arith)
-heading-written Positive w h f = absurd (omega arith)
-heading-written Negative w h f = absurd (omega arith)
-heading-written (Symbol X) w h f = absurd (omega arith)
-heading-written End w h f = absurd (omega arith)
-heading-written Invalid w h f = absurd (omega arith)
+heading_written : (v : Word) (w : ℕ) → 0 < (declared_by v).nonterminals → WrittenAs v w
+    → w ≡ heading_word (declared_by v).nonterminals (declared_by v).terminals
+heading_written (Heading n t) w h f = f
+heading_written (RuleWord A) w h f = absurd (omega arith)
+heading_written Positive w h f = absurd (omega arith)
+heading_written Negative w h f = absurd (omega arith)
+heading_written (Symbol X) w h f = absurd (omega arith)
+heading_written End w h f = absurd (omega arith)
+heading_written Invalid w h f = absurd (omega arith)
 
-unparse-empty : (p : Parsed) → Empty p → unparse p ≡ rulesWords p.rules (end_word ∷ [])
-unfolding unparse bodyWords conjunctWords
-unparse-empty p h = rw (h.body, h.positives, h.negatives)
+unparse_empty : (p : Parsed) → Empty p → unparse p ≡ rules_words p.rules (end_word ∷ [])
+unfolding unparse body_words conjunct_words
+unparse_empty p h = rw (h.body, h.positives, h.negatives)
 
-same-sizes : (y z : Sizes) → y.nonterminals ≡ z.nonterminals → y.terminals ≡ z.terminals → y.rules ≡ z.rules → y ≡ z
-same-sizes y z n t r =
+same_sizes : (y z : Sizes) → y.nonterminals ≡ z.nonterminals → y.terminals ≡ z.terminals → y.rules ≡ z.rules → y ≡ z
+same_sizes y z n t r =
     let e : sizes y.nonterminals y.terminals y.rules ≡ sizes z.nonterminals z.terminals z.rules = cc in
     e
 
 -- by the first word and the reading behind it
 module _ (w : ℕ) (ws : List ℕ) (z : Sizes)
-    (n : Within (declared_by (decoded w)).nonterminals maxNonterminals) (t : Within (declared_by (decoded w)).terminals maxTerminals)
+    (n : Within (declared_by (decoded w)).nonterminals max_nonterminals) (t : Within (declared_by (decoded w)).terminals max_terminals)
     (e : scan (fresh (declared_by (decoded w))) 1 ws ≡ Read z) where
   told : Reads (fresh (declared_by (decoded w))) z (parse ws)
   told = reads (fresh (declared_by (decoded w))) 1 ws z e
 
   count : z.rules ≡ length (parse ws).rules
-  count = omega (arith, told.rules, declares-no-rules (decoded w))
+  count = omega (arith, told.rules, declares_no_rules (decoded w))
 
-  words-encoded : w ∷ ws ≡ encode (grammarOf (w ∷ ws))
-  unfolding encode grammarOf
-  words-encoded =
+  words_encoded : w ∷ ws ≡ encode (grammar_of (w ∷ ws))
+  unfolding encode grammar_of
+  words_encoded =
       cc (
-        heading-written (decoded w) w n.some (written_as w),
+        heading_written (decoded w) w n.some (written_as w),
         unparsed (fresh (declared_by (decoded w))) 1 ws z e,
-        unparse-empty (parse ws) told.fits.shape,
+        unparse_empty (parse ws) told.fits.shape,
       )
 
-  headed-encodes : Encodes (w ∷ ws) (grammarOf (w ∷ ws))
-  unfolding grammarOf
-  headed-encodes = record {
-    formed = fit-formed (grammarOf (w ∷ ws)) z told.nonterminals told.terminals told.fits.rules;
+  headed_encodes : Encodes (w ∷ ws) (grammar_of (w ∷ ws))
+  unfolding grammar_of
+  headed_encodes = record {
+    formed = fit_formed (grammar_of (w ∷ ws)) z told.nonterminals told.terminals told.fits.rules;
     limited = record {
-      someNonterminal = n.some;
-      fewNonterminals = n.few;
-      someTerminal = t.some;
-      fewTerminals = t.few;
-      fewRules = omega (arith, count, told.room (omega (arith, declares-no-rules (decoded w))));
+      some_nonterminal = n.some;
+      few_nonterminals = n.few;
+      some_terminal = t.some;
+      few_terminals = t.few;
+      few_rules = omega (arith, count, told.room (omega (arith, declares_no_rules (decoded w))));
     };
-    encoded = words-encoded;
+    encoded = words_encoded;
   }
 
-  headed-sizes : z ≡ sizesOf (grammarOf (w ∷ ws))
-  unfolding grammarOf
-  headed-sizes = same-sizes z (sizesOf (grammarOf (w ∷ ws))) told.nonterminals told.terminals count
+  headed_sizes : z ≡ sizes_of (grammar_of (w ∷ ws))
+  unfolding grammar_of
+  headed_sizes = same_sizes z (sizes_of (grammar_of (w ∷ ws))) told.nonterminals told.terminals count
 
 -- a row read without a fault, but for the limit on the number of words, is the encoding of its grammar
-pub opened-encodes : (words : List ℕ) (z : Sizes) → opened words ≡ Read z → Encodes words (grammarOf words) × (z ≡ sizesOf (grammarOf words))
+pub opened_encodes : (words : List ℕ) (z : Sizes) → opened words ≡ Read z → Encodes words (grammar_of words) × (z ≡ sizes_of (grammar_of words))
 unfolding opened headed
-opened-encodes [] z e = absurd (faulty HeadingFault z e)
-opened-encodes (w ∷ ws) z e =
+opened_encodes [] z e = absurd (faulty HeadingFault z e)
+opened_encodes (w ∷ ws) z e =
     let d = declared_by (decoded w) in
-    let c = chosen (isWithin d.nonterminals maxNonterminals && isWithin d.terminals maxTerminals) (scan (fresh d) 1 ws) z e in
-    let b = both (isWithin d.nonterminals maxNonterminals) (isWithin d.terminals maxTerminals) c.0 in
-    let n = within-limits d.nonterminals maxNonterminals b.0 in
-    let t = within-limits d.terminals maxTerminals b.1 in
-    (headed-encodes w ws z n t c.1, headed-sizes w ws z n t c.1)
+    let c = chosen (is_within d.nonterminals max_nonterminals && is_within d.terminals max_terminals) (scan (fresh d) 1 ws) z e in
+    let b = both (is_within d.nonterminals max_nonterminals) (is_within d.terminals max_terminals) c.0 in
+    let n = within_limits d.nonterminals max_nonterminals b.0 in
+    let t = within_limits d.terminals max_terminals b.1 in
+    (headed_encodes w ws z n t c.1, headed_sizes w ws z n t c.1)
 
-pub encodes-opened : (words : List ℕ) (G : Grammar) → Encodes words G → opened words ≡ Read (sizesOf G)
-encodes-opened words G h = rw h.encoded (encode-opened G h.formed h.limited)
+pub encodes_opened : (words : List ℕ) (G : Grammar) → Encodes words G → opened words ≡ Read (sizes_of G)
+encodes_opened words G h = rw h.encoded (encode_opened G h.formed h.limited)
 
 -- the rows read without a fault are the encodings of at most 2,048 words
-pub read-encodes : (words : List ℕ) (z : Sizes) → reading words ≡ Read z
-    → (length words ≤ maxWords) × Encodes words (grammarOf words) × (z ≡ sizesOf (grammarOf words))
+pub read_encodes : (words : List ℕ) (z : Sizes) → reading words ≡ Read z
+    → (length words ≤ max_words) × Encodes words (grammar_of words) × (z ≡ sizes_of (grammar_of words))
 unfolding reading
-read-encodes words z e =
-    let s = refused (ltb maxWords (length words)) (opened words) z e in
-    let r = opened-encodes words z s.1 in
-    (ltb-false maxWords (length words) s.0, r.0, r.1)
+read_encodes words z e =
+    let s = refused (ltb max_words (length words)) (opened words) z e in
+    let r = opened_encodes words z s.1 in
+    (ltb-false max_words (length words) s.0, r.0, r.1)
 
-pub encodes-read : (words : List ℕ) (G : Grammar) → length words ≤ maxWords → Encodes words G → reading words ≡ Read (sizesOf G)
+pub encodes_read : (words : List ℕ) (G : Grammar) → length words ≤ max_words → Encodes words G → reading words ≡ Read (sizes_of G)
 unfolding reading
-encodes-read words G l e = rw (le-ltb maxWords (length words) l) (encodes-opened words G e)
+encodes_read words G l e = rw (le-ltb max_words (length words) l) (encodes_opened words G e)
 
-pub reading-encodes : (words : List ℕ) (z : Sizes)
-    → (reading words ≡ Read z) ↔ ((length words ≤ maxWords) × ((G : Grammar) × (Encodes words G × (z ≡ sizesOf G))))
-reading-encodes words z = (λ e. let r = read-encodes words z e in (r.0, (grammarOf words, (r.1, r.2))), back)
+pub reading_encodes : (words : List ℕ) (z : Sizes)
+    → (reading words ≡ Read z) ↔ ((length words ≤ max_words) × ((G : Grammar) × (Encodes words G × (z ≡ sizes_of G))))
+reading_encodes words z = (λ e. let r = read_encodes words z e in (r.0, (grammar_of words, (r.1, r.2))), back)
   where
-    back : (length words ≤ maxWords) × ((G : Grammar) × (Encodes words G × (z ≡ sizesOf G))) → reading words ≡ Read z
-    back (l, (G, (e, s))) = rw s (encodes-read words G l e)
+    back : (length words ≤ max_words) × ((G : Grammar) × (Encodes words G × (z ≡ sizes_of G))) → reading words ≡ Read z
+    back (l, (G, (e, s))) = rw s (encodes_read words G l e)

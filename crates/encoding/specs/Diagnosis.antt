@@ -6,9 +6,9 @@ use Rattle.word.specs.declared.Symbol.TheVariants.{Terminal, Nonterminal}
 use Rattle.word.specs.Words.{kind, payload}
 use Rattle.grammar.specs.declared.reading.Reading.{Reading}
 use Rattle.grammar.specs.declared.reading.Reading.TheVariants.{Read, Faulty}
-use Rattle.grammar.specs.Limits.{maxWords, maxRules}
+use Rattle.grammar.specs.Limits.{max_words, max_rules}
 use Rattle.grammar.specs.Syntax.{Grammar}
-use Rattle.encoding.specs.Encode.{symbolWord, end_word, sizesOf, Encodes}
+use Rattle.encoding.specs.Encode.{symbol_word, end_word, sizes_of, Encodes}
 
 -- the words begin the encoding, however long, of a well-formed grammar within the limits
 pub record BeginsEncoding (words : List ℕ) : Type 0 where
@@ -28,10 +28,10 @@ pub record FirstFault (words : List ℕ) (i : ℕ) : Type 0 where
 pub data OutOfRangeAt (words : List ℕ) (i : ℕ) : Type 0 where
   head : {G : Grammar} → kind (get_or words i 0) ≡ 2 → Encodes (take i words ++ (end_word ∷ [])) G → G.nonterminals ≤ payload (get_or words i 0)
       → OutOfRangeAt words i
-  terminal : kind (get_or words i 0) ≡ 5 → (b : BeginsEncoding (take i words ++ (symbolWord (Terminal 0) ∷ [])))
+  terminal : kind (get_or words i 0) ≡ 5 → (b : BeginsEncoding (take i words ++ (symbol_word (Terminal 0) ∷ [])))
       → b.grammar.terminals ≤ payload (get_or words i 0)
       → OutOfRangeAt words i
-  nonterminal : kind (get_or words i 0) ≡ 6 → (b : BeginsEncoding (take i words ++ (symbolWord (Nonterminal 0) ∷ [])))
+  nonterminal : kind (get_or words i 0) ≡ 6 → (b : BeginsEncoding (take i words ++ (symbol_word (Nonterminal 0) ∷ [])))
       → b.grammar.nonterminals ≤ payload (get_or words i 0)
       → OutOfRangeAt words i
 
@@ -41,17 +41,17 @@ pub record RuleTooMany (words : List ℕ) (i : ℕ) : Type 0 where
   pub grammar : Grammar
   pub before : Encodes (take i words ++ (end_word ∷ [])) grammar
   pub in_range : payload (get_or words i 0) < grammar.nonterminals
-  pub full : length grammar.rules ≡ maxRules
+  pub full : length grammar.rules ≡ max_rules
 
 -- what is wrong with the first word that no encoding goes on with: 6, 7, or else 5
 pub data WordFault (words : List ℕ) (i : ℕ) : Error → Type 0 where
   unexpected : (OutOfRangeAt words i → ⊥) → (RuleTooMany words i → ⊥) → WordFault words i (UnexpectedWord i)
-  outOfRange : OutOfRangeAt words i → WordFault words i (OutOfRange i)
-  tooMany : RuleTooMany words i → WordFault words i (TooManyRules i)
+  out_of_range : OutOfRangeAt words i → WordFault words i (OutOfRange i)
+  too_many : RuleTooMany words i → WordFault words i (TooManyRules i)
 
 -- 3, 4, a fault of the first faulty word, or none of them
 pub data Diagnosis (words : List ℕ) : Reading → Type 0 where
-  long : maxWords < length words → Diagnosis words (Faulty Length)
-  heading : length words ≤ maxWords → FirstFault words 0 → Diagnosis words (Faulty Heading)
-  behind : {i : ℕ} {x : Error} → length words ≤ maxWords → 0 < i → FirstFault words i → WordFault words i x → Diagnosis words (Faulty x)
-  encoding : {G : Grammar} → length words ≤ maxWords → Encodes words G → Diagnosis words (Read (sizesOf G))
+  long : max_words < length words → Diagnosis words (Faulty Length)
+  heading : length words ≤ max_words → FirstFault words 0 → Diagnosis words (Faulty Heading)
+  behind : {i : ℕ} {x : Error} → length words ≤ max_words → 0 < i → FirstFault words i → WordFault words i x → Diagnosis words (Faulty x)
+  encoding : {G : Grammar} → length words ≤ max_words → Encodes words G → Diagnosis words (Read (sizes_of G))

@@ -3,7 +3,7 @@ use Rattle.std.specs.Prelude.{◌≡◌, List, [], ◌∷◌, ℕ, ◌+◌, ◌*
 use Rattle.word.specs.declared.Symbol.{Symbol}
 use Rattle.word.specs.declared.Symbol.TheVariants.{Terminal, Nonterminal}
 use Rattle.grammar.specs.declared.reading.Sizes.{Sizes}
-use Rattle.grammar.specs.Limits.{maxNonterminals, maxTerminals, maxRules}
+use Rattle.grammar.specs.Limits.{max_nonterminals, max_terminals, max_rules}
 use Rattle.grammar.specs.Syntax.{Body, Rule, Grammar, WellFormed}
 use Rattle.grammar.specs.Encoding.{sizes}
 
@@ -12,57 +12,57 @@ abbrev pub word_of : ℕ → ℕ → ℕ
 word_of k p = k * 2 ^ 28 + p
 
 -- the number of nonterminals in bits 0 to 7, of terminals in bits 8 to 15
-abbrev pub headingWord : ℕ → ℕ → ℕ
-headingWord n t = word_of 1 (t * 2 ^ 8 + n)
+abbrev pub heading_word : ℕ → ℕ → ℕ
+heading_word n t = word_of 1 (t * 2 ^ 8 + n)
 
-abbrev pub ruleWord : ℕ → ℕ
-ruleWord A = word_of 2 A
+abbrev pub rule_word : ℕ → ℕ
+rule_word A = word_of 2 A
 
-abbrev pub positiveWord : ℕ
-positiveWord = word_of 3 0
+abbrev pub positive_word : ℕ
+positive_word = word_of 3 0
 
-abbrev pub negativeWord : ℕ
-negativeWord = word_of 4 0
+abbrev pub negative_word : ℕ
+negative_word = word_of 4 0
 
-abbrev pub symbolWord : Symbol → ℕ
-symbolWord (Terminal a) = word_of 5 a
-symbolWord (Nonterminal A) = word_of 6 A
+abbrev pub symbol_word : Symbol → ℕ
+symbol_word (Terminal a) = word_of 5 a
+symbol_word (Nonterminal A) = word_of 6 A
 
 abbrev pub end_word : ℕ
 end_word = word_of 7 0
 
 -- a body's symbols, and behind them the words ws
-unfoldable pub bodyWords : Body → List ℕ → List ℕ
-bodyWords [] ws = ws
-bodyWords (X ∷ b) ws = symbolWord X ∷ bodyWords b ws
+unfoldable pub body_words : Body → List ℕ → List ℕ
+body_words [] ws = ws
+body_words (X ∷ b) ws = symbol_word X ∷ body_words b ws
 
 -- conjuncts, each behind the word that begins it
-unfoldable pub conjunctWords : ℕ → List Body → List ℕ → List ℕ
-conjunctWords begin [] ws = ws
-conjunctWords begin (b ∷ bs) ws = begin ∷ bodyWords b (conjunctWords begin bs ws)
+unfoldable pub conjunct_words : ℕ → List Body → List ℕ → List ℕ
+conjunct_words begin [] ws = ws
+conjunct_words begin (b ∷ bs) ws = begin ∷ body_words b (conjunct_words begin bs ws)
 
 -- a rule: its head, the positive conjuncts, the negative ones
-unfoldable pub ruleWords : Rule → List ℕ → List ℕ
-ruleWords r ws = ruleWord r.head ∷ conjunctWords positiveWord r.positives (conjunctWords negativeWord r.negatives ws)
+unfoldable pub rule_words : Rule → List ℕ → List ℕ
+rule_words r ws = rule_word r.head ∷ conjunct_words positive_word r.positives (conjunct_words negative_word r.negatives ws)
 
-unfoldable pub rulesWords : List Rule → List ℕ → List ℕ
-rulesWords [] ws = ws
-rulesWords (r ∷ rs) ws = ruleWords r (rulesWords rs ws)
+unfoldable pub rules_words : List Rule → List ℕ → List ℕ
+rules_words [] ws = ws
+rules_words (r ∷ rs) ws = rule_words r (rules_words rs ws)
 
 -- the words of a grammar (document 01: its card)
 unfoldable pub encode : Grammar → List ℕ
-encode G = headingWord G.nonterminals G.terminals ∷ rulesWords G.rules (end_word ∷ [])
+encode G = heading_word G.nonterminals G.terminals ∷ rules_words G.rules (end_word ∷ [])
 
-abbrev pub sizesOf : Grammar → Sizes
-sizesOf G = sizes G.nonterminals G.terminals (length G.rules)
+abbrev pub sizes_of : Grammar → Sizes
+sizes_of G = sizes G.nonterminals G.terminals (length G.rules)
 
 -- the limits on a grammar's numbers
 pub record WithinLimits (G : Grammar) : Type 0 where
-  pub someNonterminal : 0 < G.nonterminals
-  pub fewNonterminals : G.nonterminals ≤ maxNonterminals
-  pub someTerminal : 0 < G.terminals
-  pub fewTerminals : G.terminals ≤ maxTerminals
-  pub fewRules : length G.rules ≤ maxRules
+  pub some_nonterminal : 0 < G.nonterminals
+  pub few_nonterminals : G.nonterminals ≤ max_nonterminals
+  pub some_terminal : 0 < G.terminals
+  pub few_terminals : G.terminals ≤ max_terminals
+  pub few_rules : length G.rules ≤ max_rules
 
 -- the words are those of the grammar, which is well formed and within the limits; how many words they are is not asked here
 pub record Encodes (words : List ℕ) (G : Grammar) : Type 0 where

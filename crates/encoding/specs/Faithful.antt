@@ -2,7 +2,7 @@
 use Rattle.std.specs.Prelude.{◌≡◌, List, ◌↔◌, ℕ}
 use Rattle.grammar.specs.declared.reading.Reading.{Reading}
 use Rattle.grammar.specs.Syntax.{Grammar}
-use Rattle.grammar.specs.Encoding.{grammarOf}
+use Rattle.grammar.specs.Encoding.{grammar_of}
 use Rattle.grammar.specs.Reading.{reading}
 use Rattle.encoding.specs.Encode.{Encodes}
 use Rattle.encoding.specs.Diagnosis.{Diagnosis}
@@ -10,4 +10,4 @@ use Rattle.encoding.specs.Diagnosis.{Diagnosis}
 -- the outcome of the reading is what there is to tell and nothing else, and the grammar of an encoding is the one that it encodes
 pub record FaithfulReading (words : List ℕ) : Type 0 where
   pub outcome : (o : Reading) → (reading words ≡ o) ↔ Diagnosis words o
-  pub grammar : (G : Grammar) → Encodes words G → grammarOf words ≡ G
+  pub grammar : (G : Grammar) → Encodes words G → grammar_of words ≡ G

@@ -9,21 +9,21 @@ use lib.ListN.{length, get_or, length-map, get_or-map}
 use Rattle.base.specs.Quantifiers.{all_of}
 use Rattle.base.proofs.Booleans.{and_l, and_r}
 use Rattle.base.specs.Strings.{Over}
-use Rattle.event.specs.Events.{terminalOf, input_of}
+use Rattle.event.specs.Events.{terminal_of, input_of}
 
-pub input-length : (events : List ℕ) → length (input_of events) ≡ length events
+pub input_length : (events : List ℕ) → length (input_of events) ≡ length events
 unfolding input_of
-input-length events = length-map events terminalOf
+input_length events = length-map events terminal_of
 
-pub input-at : (events : List ℕ) (at : ℕ) → get_or (input_of events) at 0 ≡ terminalOf (get_or events at 0)
+pub input_at : (events : List ℕ) (at : ℕ) → get_or (input_of events) at 0 ≡ terminal_of (get_or events at 0)
 unfolding input_of
-input-at events at = get_or-map terminalOf events at 0
+input_at events at = get_or-map terminal_of events at 0
 
 -- terminals written as events have no direction
-pub input-own : (n : ℕ) → n ≤ 128 → (w : List ℕ) → Over n w → input_of w ≡ w
+pub input_own : (n : ℕ) → n ≤ 128 → (w : List ℕ) → Over n w → input_of w ≡ w
 unfolding input_of all_of
-input-own n few [] h = refl
-input-own n few (a ∷ w) h =
+input_own n few [] h = refl
+input_own n few (a ∷ w) h =
     let l = ltb→lt a n (and_l (ltb a n) _ h) in
     let e : a % 128 ≡ a = mod-eq_of_lt (omega arith) in
-    rw (e, input-own n few w (and_r (ltb a n) _ h))
+    rw (e, input_own n few w (and_r (ltb a n) _ h))

@@ -14,48 +14,48 @@ use Rattle.base.specs.Quantifiers.{all_of}
 use Rattle.base.proofs.Booleans.{T_true, and_l, and_r}
 use Rattle.base.specs.Strings.{Over}
 use Rattle.event.specs.declared.Unknown.TheVariants.{Absent, At}
-use Rattle.event.specs.Events.{terminalOf, input_of}
-use Rattle.event.specs.Unknown.{unknownFrom}
-use Rattle.event.proofs.Inputs.{input-length, input-at}
+use Rattle.event.specs.Events.{terminal_of, input_of}
+use Rattle.event.specs.Unknown.{unknown_from}
+use Rattle.event.proofs.Inputs.{input_length, input_at}
 
 -- an input is of known tokens exactly when no unknown one is found
-pub known-absent : (n at : ℕ) (w : List ℕ) → Over n w → unknownFrom n at w ≡ Absent
-unfolding unknownFrom all_of
-known-absent n at [] h = refl
-known-absent n at (a ∷ w) h = rw (T_true (ltb a n) (and_l (ltb a n) _ h)) (known-absent n (suc at) w (and_r (ltb a n) _ h))
+pub known_absent : (n at : ℕ) (w : List ℕ) → Over n w → unknown_from n at w ≡ Absent
+unfolding unknown_from all_of
+known_absent n at [] h = refl
+known_absent n at (a ∷ w) h = rw (T_true (ltb a n) (and_l (ltb a n) _ h)) (known_absent n (suc at) w (and_r (ltb a n) _ h))
 
-pub absent-known : (n at : ℕ) (w : List ℕ) → unknownFrom n at w ≡ Absent → Over n w
-unfolding unknownFrom all_of
-absent-known n at [] e = tt
-absent-known n at (a ∷ w) e = go (ltb a n) e (absent-known n (suc at) w)
+pub absent_known : (n at : ℕ) (w : List ℕ) → unknown_from n at w ≡ Absent → Over n w
+unfolding unknown_from all_of
+absent_known n at [] e = tt
+absent_known n at (a ∷ w) e = go (ltb a n) e (absent_known n (suc at) w)
   where
-    go : (b : Bool) → choose b (unknownFrom n (suc at) w) (At at) ≡ Absent → (unknownFrom n (suc at) w ≡ Absent → Over n w)
+    go : (b : Bool) → choose b (unknown_from n (suc at) w) (At at) ≡ Absent → (unknown_from n (suc at) w ≡ Absent → Over n w)
         → T (b && all_of (λ c. ltb c n) w)
     go true f over = over f
     go false f over = let z : ◌≡◌ {A = ℕ} 0 1 = cc in absurd (omega arith)
 
 -- every token is a terminal of the grammar
-pub token-below : (n : ℕ) (w : List ℕ) → Over n w → (i : ℕ) → i < length w → get_or w i 0 < n
+pub token_below : (n : ℕ) (w : List ℕ) → Over n w → (i : ℕ) → i < length w → get_or w i 0 < n
 unfolding all_of
-token-below n [] h i l = absurd (omega arith)
-token-below n (x ∷ w) h zero l = ltb→lt x n (and_l (ltb x n) _ h)
-token-below n (x ∷ w) h (suc i) l = token-below n w (and_r (ltb x n) _ h) i (omega arith)
+token_below n [] h i l = absurd (omega arith)
+token_below n (x ∷ w) h zero l = ltb→lt x n (and_l (ltb x n) _ h)
+token_below n (x ∷ w) h (suc i) l = token_below n w (and_r (ltb x n) _ h) i (omega arith)
 
 -- the search for an unknown token, by the event at an index
 module _ (n : ℕ) (events : List ℕ) (at : ℕ) where
-  unknown-at : at < length events
-      → unknownFrom n at (drop at (input_of events))
-      ≡ choose (ltb (terminalOf (get_or events at 0)) n) (unknownFrom n (suc at) (drop (suc at) (input_of events))) (At at)
-  unfolding unknownFrom
-  unknown-at h = rw (drop-cons (input_of events) at 0 (omega (arith, input-length events)), input-at events at)
+  unknown_at : at < length events
+      → unknown_from n at (drop at (input_of events))
+      ≡ choose (ltb (terminal_of (get_or events at 0)) n) (unknown_from n (suc at) (drop (suc at) (input_of events))) (At at)
+  unfolding unknown_from
+  unknown_at h = rw (drop-cons (input_of events) at 0 (omega (arith, input_length events)), input_at events at)
 
-  pub unknown-next : at < length events → terminalOf (get_or events at 0) < n
-      → unknownFrom n (at + 1) (drop (at + 1) (input_of events)) ≡ unknownFrom n at (drop at (input_of events))
-  unknown-next h l = sym (unknown-at h ∙ rw (lt-ltb (terminalOf (get_or events at 0)) n l, add-one at))
+  pub unknown_next : at < length events → terminal_of (get_or events at 0) < n
+      → unknown_from n (at + 1) (drop (at + 1) (input_of events)) ≡ unknown_from n at (drop at (input_of events))
+  unknown_next h l = sym (unknown_at h ∙ rw (lt-ltb (terminal_of (get_or events at 0)) n l, add-one at))
 
-  pub unknown-here : at < length events → n ≤ terminalOf (get_or events at 0) → At at ≡ unknownFrom n at (drop at (input_of events))
-  unknown-here h l = sym (unknown-at h ∙ rw (le-ltb (terminalOf (get_or events at 0)) n l))
+  pub unknown_here : at < length events → n ≤ terminal_of (get_or events at 0) → At at ≡ unknown_from n at (drop at (input_of events))
+  unknown_here h l = sym (unknown_at h ∙ rw (le-ltb (terminal_of (get_or events at 0)) n l))
 
-  pub unknown-none : length events ≤ at → Absent ≡ unknownFrom n at (drop at (input_of events))
-  unfolding unknownFrom
-  unknown-none h = let past : length (input_of events) ≤ at = omega (arith, input-length events) in rw (drop_of_length-le (input_of events) past)
+  pub unknown_none : length events ≤ at → Absent ≡ unknown_from n at (drop at (input_of events))
+  unfolding unknown_from
+  unknown_none h = let past : length (input_of events) ≤ at = omega (arith, input_length events) in rw (drop_of_length-le (input_of events) past)

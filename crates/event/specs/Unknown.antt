@@ -8,10 +8,10 @@ use Rattle.event.specs.declared.Unknown.{Unknown}
 use Rattle.event.specs.declared.Unknown.TheVariants.{Absent, At}
 
 -- of a grammar with n terminals, and an input whose first token has the index `at`
-unfoldable pub unknownFrom : ℕ → ℕ → List ℕ → Unknown
-unknownFrom n at [] = Absent
-unknownFrom n at (a ∷ w) = choose (ltb a n) (unknownFrom n (suc at) w) (At at)
+unfoldable pub unknown_from : ℕ → ℕ → List ℕ → Unknown
+unknown_from n at [] = Absent
+unknown_from n at (a ∷ w) = choose (ltb a n) (unknown_from n (suc at) w) (At at)
 
-abbrev pub unknownFault : Unknown → Option Error
-unknownFault Absent = none
-unknownFault (At i) = some (UnknownToken i)
+abbrev pub unknown_fault : Unknown → Option Error
+unknown_fault Absent = none
+unknown_fault (At i) = some (UnknownToken i)

@@ -1,13 +1,13 @@
 // An event of a log, and the terminal that it is.
 ghost use Rattle.std.specs.Prelude.{◌≡◌};
-ghost use Rattle.event.specs.Events.{terminalOf, input_of};
-ghost use Rattle.event.specs.Unknown.{unknownFrom};
+ghost use Rattle.event.specs.Events.{terminal_of, input_of};
+ghost use Rattle.event.specs.Unknown.{unknown_from};
 
 // The weight of an event's top bit, which tells a direction; grammars ignore it.
 const DIRECTION: u8 = 128;
 
 pub fn terminal_of(event: u8) -> u8
-    ensures { result ≡ terminalOf event }
+    ensures { result ≡ terminal_of event }
 {
     event % DIRECTION
 }
@@ -20,7 +20,7 @@ pub enum Unknown {
 
 // The first event that is no terminal of a grammar.
 pub fn first_unknown(events: &[u8], terminals: u32) -> Unknown
-    ensures { result ≡ unknownFrom terminals 0 (input_of events.now) }
+    ensures { result ≡ unknown_from terminals 0 (input_of events.now) }
 {
     let mut at = 0;
     while at < events.len() {

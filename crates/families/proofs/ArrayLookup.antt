@@ -6,17 +6,17 @@ use native.Mathlib.Nat.{mod-eq_of_lt}
 use lib.ListN.{get_or}
 use Rattle.word.specs.declared.Symbol.{Symbol as GrammarSymbol}
 use Rattle.word.specs.declared.Symbol.TheVariants.{Terminal, Nonterminal}
-use Rattle.grammar.specs.Limits.{maxNonterminals}
+use Rattle.grammar.specs.Limits.{max_nonterminals}
 use Rattle.lookahead.specs.declared.Lookahead.{Lookahead}
-use Rattle.families.specs.contracts.First.{symbolFirst}
-use Rattle.families.specs.contracts.Least.{at, lookup}
-use Rattle.families.specs.contracts.Naming.{IndexedSymbol}
+use Rattle.families.specs.inner.First.{symbol_first}
+use Rattle.families.specs.inner.Least.{at, lookup}
+use Rattle.families.specs.inner.Naming.{IndexedSymbol}
 
-lookup-at : (l : List ℕ) (n : ℕ) → n < maxNonterminals → lookup l n ≡ at l n
+lookup_at : (l : List ℕ) (n : ℕ) → n < max_nonterminals → lookup l n ≡ at l n
 unfolding lookup
-lookup-at l n h = ap (λ (m : ℕ). get_or l m 0) (mod-eq_of_lt h)
+lookup_at l n h = ap (λ (m : ℕ). get_or l m 0) (mod-eq_of_lt h)
 
-pub symbol-lookup : (k : Lookahead) (l : List ℕ) (X : GrammarSymbol) → IndexedSymbol X → symbolFirst k (lookup l) X ≡ symbolFirst k (at l) X
-unfolding symbolFirst
-symbol-lookup k l (Terminal a) h = refl
-symbol-lookup k l (Nonterminal A) h = lookup-at l A h
+pub symbol_lookup : (k : Lookahead) (l : List ℕ) (X : GrammarSymbol) → IndexedSymbol X → symbol_first k (lookup l) X ≡ symbol_first k (at l) X
+unfolding symbol_first
+symbol_lookup k l (Terminal a) h = refl
+symbol_lookup k l (Nonterminal A) h = lookup_at l A h

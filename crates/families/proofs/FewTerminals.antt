@@ -5,22 +5,22 @@ use Prim.Native.Nat.{ℕ, ◌≤◌}
 use native.Mathlib.Omega.{arith}
 use Rattle.grammar.specs.declared.reading.Sizes.{Sizes}
 use Rattle.grammar.specs.declared.reading.Reading.TheVariants.{Read}
-use Rattle.grammar.specs.Encoding.{grammarOf}
+use Rattle.grammar.specs.Encoding.{grammar_of}
 use Rattle.grammar.specs.Reading.{reading}
-use Rattle.grammar.proofs.WellRead.{well-read}
+use Rattle.grammar.proofs.WellRead.{well_read}
 use Rattle.lookahead.specs.declared.Lookahead.{Lookahead}
 use Rattle.lookahead.specs.declared.Lookahead.TheVariants.{One, Two}
-use Rattle.lookahead.specs.contracts.Lookaheads.{alphabet}
+use Rattle.lookahead.specs.inner.Lookaheads.{alphabet}
 use Rattle.admission.specs.Admission.{admission, Fits}
 use Rattle.admission.proofs.Admitted.{admitted}
 
 module _ (k : Lookahead) (words : List ℕ) {z : Sizes} (e : admission k words ≡ Read z) where
-  pub admitted-read : reading words ≡ Read z
-  admitted-read = ((admitted k words z).0 e).0
+  pub admitted_read : reading words ≡ Read z
+  admitted_read = ((admitted k words z).0 e).0
 
-  pub few-terminals : (grammarOf words).terminals ≤ alphabet k
-  few-terminals = fits k ((admitted k words z).0 e).1
+  pub few_terminals_lem : (grammar_of words).terminals ≤ alphabet k
+  few_terminals_lem = fits k ((admitted k words z).0 e).1
     where
-      fits : (k : Lookahead) → Fits k (grammarOf words) → (grammarOf words).terminals ≤ alphabet k
-      fits One f = let w = well-read words z admitted-read in omega (arith, w.fewTerminals, w.terminals)
+      fits : (k : Lookahead) → Fits k (grammar_of words) → (grammar_of words).terminals ≤ alphabet k
+      fits One f = let w = well_read words z admitted_read in omega (arith, w.few_terminals, w.terminals)
       fits Two f = f.0

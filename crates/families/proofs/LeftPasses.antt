@@ -11,83 +11,83 @@ use Rattle.word.specs.declared.Symbol.{Symbol as GrammarSymbol}
 use Rattle.word.specs.declared.Symbol.TheVariants.{Terminal, Nonterminal}
 use Rattle.word.specs.declared.Word.{Word}
 use Rattle.word.specs.declared.Word.TheVariants.{Heading, Rule as RuleWord, Positive, Negative, Symbol, End, Invalid}
-use Rattle.grammar.specs.Limits.{maxNonterminals}
+use Rattle.grammar.specs.Limits.{max_nonterminals}
 use Rattle.grammar.specs.Syntax.{Body}
 use Rattle.grammar.specs.Encoding.{Parsed, on_word}
-use Rattle.grammar.specs.contracts.WellRead.{ruleRead}
+use Rattle.grammar.specs.inner.WellRead.{rule_read}
 use Rattle.grammar.proofs.EachIndex.{Behind}
 use Rattle.lookahead.specs.Elements.{weight}
-use Rattle.lookahead.specs.contracts.Elements.{Subset}
-use Rattle.lookahead.specs.contracts.Operations.{emptySet, join, Empty, Joined}
-use Rattle.lookahead.proofs.Order.{subset-refl, subset-antisym, join-left, join-right, join-least, join-same}
+use Rattle.lookahead.specs.inner.Elements.{Subset}
+use Rattle.lookahead.specs.inner.Operations.{empty_set, join, Empty, Joined}
+use Rattle.lookahead.proofs.Order.{subset_refl, subset_antisym, join_left, join_right, join_least, join_same}
 use Rattle.base.specs.Rounds.{NumberSet}
-use Rattle.families.specs.contracts.Left.{symbolLeft, bodyLeft, bodiesLeft, ruleLeft, lefts, left_of, ownLeft, insideLeft}
-use Rattle.families.specs.contracts.Naming.{IndexedSymbol, Indexed}
-use Rattle.families.specs.contracts.Nonterminals.{alone, Alone}
-use Rattle.families.specs.contracts.Rules.{foldFromEnd, ruleFrom, Inside, RuleWords}
+use Rattle.families.specs.inner.Left.{symbol_left, body_left, bodies_left, rule_left, lefts, left_of, own_left, inside_left}
+use Rattle.families.specs.inner.Naming.{IndexedSymbol, Indexed}
+use Rattle.families.specs.inner.Nonterminals.{alone, Alone}
+use Rattle.families.specs.inner.Rules.{fold_from_end, rule_from, Inside, RuleWords}
 use Rattle.families.proofs.Inner.{made_inside}
 
 -- a body may be joined before or behind others
-join-swap : (x y z : ℕ) → join x (join y z) ≡ join y (join x z)
-join-swap x y z = subset-antisym (join x (join y z)) (join y (join x z)) (half x y z) (half y x z)
+join_swap : (x y z : ℕ) → join x (join y z) ≡ join y (join x z)
+join_swap x y z = subset_antisym (join x (join y z)) (join y (join x z)) (half x y z) (half y x z)
   where
     half : (x y z : ℕ) → Subset (join x (join y z)) (join y (join x z))
     half x y z =
-        join-least x (join y z) (join y (join x z)) (λ l t. join-right y (join x z) l (join-left x z l t))
-        (join-least y z (join y (join x z)) (join-left y (join x z)) (λ l t. join-right y (join x z) l (join-right x z l t)))
+        join_least x (join y z) (join y (join x z)) (λ l t. join_right y (join x z) l (join_left x z l t))
+        (join_least y z (join y (join x z)) (join_left y (join x z)) (λ l t. join_right y (join x z) l (join_right x z l t)))
 
-bodies-between : (s : NumberSet) (ps : List Body) (b : Body) (ns : List Body)
-    → join (bodyLeft s b) (bodiesLeft s (ps ++ ns)) ≡ bodiesLeft s (ps ++ (b ∷ ns))
-unfolding bodiesLeft
-bodies-between s [] b ns = refl
-bodies-between s (p ∷ ps) b ns = join-swap (bodyLeft s b) (bodyLeft s p) (bodiesLeft s (ps ++ ns)) ∙ ap (join (bodyLeft s p)) (bodies-between s ps b ns)
+bodies_between : (s : NumberSet) (ps : List Body) (b : Body) (ns : List Body)
+    → join (body_left s b) (bodies_left s (ps ++ ns)) ≡ bodies_left s (ps ++ (b ∷ ns))
+unfolding bodies_left
+bodies_between s [] b ns = refl
+bodies_between s (p ∷ ps) b ns = join_swap (body_left s b) (body_left s p) (bodies_left s (ps ++ ns)) ∙ ap (join (body_left s p)) (bodies_between s ps b ns)
 
 -- what `symbol_left` returns
-pub left_alone : {A x : ℕ} → Alone A x → A < maxNonterminals → x ≡ weight A
+pub left_alone : {A x : ℕ} → Alone A x → A < max_nonterminals → x ≡ weight A
 unfolding alone
-left_alone {A} a h = a.is ∙ rw (lt-ltb A maxNonterminals h)
+left_alone {A} a h = a.is ∙ rw (lt-ltb A max_nonterminals h)
 
 module _ (s : NumberSet) {X : GrammarSymbol} (behind : ℕ) where
-  pub left-terminal : {a x : ℕ} → X ≡ Terminal a → Empty x → x ≡ ownLeft s X behind
-  left-terminal e n = n.is ∙ rw e
+  pub left_terminal : {a x : ℕ} → X ≡ Terminal a → Empty x → x ≡ own_left s X behind
+  left_terminal e n = n.is ∙ rw e
 
-  pub left-none : {A x : ℕ} → X ≡ Nonterminal A → maxNonterminals ≤ A → Empty x → x ≡ ownLeft s X behind
-  left-none {A} e h n = n.is ∙ rw (e, le-ltb A maxNonterminals h)
+  pub left_none : {A x : ℕ} → X ≡ Nonterminal A → max_nonterminals ≤ A → Empty x → x ≡ own_left s X behind
+  left_none {A} e h n = n.is ∙ rw (e, le-ltb A max_nonterminals h)
 
-  module _ {A a : ℕ} (e : X ≡ Nonterminal A) (i : A < maxNonterminals) (alone : Alone A a) where
-    pub left-on : {r : ℕ} → s A ≡ true → Joined a behind r → r ≡ ownLeft s X behind
-    unfolding symbolLeft
-    left-on t k = k.is ∙ rw (e, lt-ltb A maxNonterminals i, left_alone alone i, t)
+  module _ {A a : ℕ} (e : X ≡ Nonterminal A) (i : A < max_nonterminals) (alone : Alone A a) where
+    pub left_on : {r : ℕ} → s A ≡ true → Joined a behind r → r ≡ own_left s X behind
+    unfolding symbol_left
+    left_on t k = k.is ∙ rw (e, lt-ltb A max_nonterminals i, left_alone alone i, t)
 
-    pub left-stop : s A ≡ false → a ≡ ownLeft s X behind
-    unfolding symbolLeft
-    left-stop t = left_alone alone i ∙ rw (e, lt-ltb A maxNonterminals i, t)
+    pub left_stop : s A ≡ false → a ≡ own_left s X behind
+    unfolding symbol_left
+    left_stop t = left_alone alone i ∙ rw (e, lt-ltb A max_nonterminals i, t)
 
 -- a symbol that is named has a set
-own-symbol : (s : NumberSet) (X : GrammarSymbol) (behind : ℕ) → IndexedSymbol X → ownLeft s X behind ≡ symbolLeft s X behind
-unfolding symbolLeft
-own-symbol s (Terminal a) behind i = refl
-own-symbol s (Nonterminal A) behind i = rw (lt-ltb A maxNonterminals i)
+own_symbol : (s : NumberSet) (X : GrammarSymbol) (behind : ℕ) → IndexedSymbol X → own_left s X behind ≡ symbol_left s X behind
+unfolding symbol_left
+own_symbol s (Terminal a) behind i = refl
+own_symbol s (Nonterminal A) behind i = rw (lt-ltb A max_nonterminals i)
 
 -- inside a rule it is enough to tell symbols
-inside-left : (s : NumberSet) (w : Word) (p : Parsed) → Inside w → Indexed w → Behind w p → insideLeft s w (left_of s p) ≡ left_of s (on_word w p)
-unfolding on_word bodyLeft bodiesLeft
-inside-left s (Symbol X) p i n b = ap (λ x. lefts x (bodiesLeft s (p.positives ++ p.negatives))) (own-symbol s X (bodyLeft s p.body) n)
-inside-left s Positive p i x b = refl
-inside-left s Negative p i x b = ap (lefts 0) (bodies-between s p.positives p.body p.negatives)
-inside-left s End p i x b = rw (b.body, b.positives, b.negatives) (ap (lefts 0) (join-same emptySet emptySet (subset-refl emptySet)))
-inside-left s (RuleWord A) p i x b = absurd i
-inside-left s (Heading m n) p i x b = absurd i
-inside-left s Invalid p i x b = absurd i
+inside_left_lem : (s : NumberSet) (w : Word) (p : Parsed) → Inside w → Indexed w → Behind w p → inside_left s w (left_of s p) ≡ left_of s (on_word w p)
+unfolding on_word body_left bodies_left
+inside_left_lem s (Symbol X) p i n b = ap (λ x. lefts x (bodies_left s (p.positives ++ p.negatives))) (own_symbol s X (body_left s p.body) n)
+inside_left_lem s Positive p i x b = refl
+inside_left_lem s Negative p i x b = ap (lefts 0) (bodies_between s p.positives p.body p.negatives)
+inside_left_lem s End p i x b = rw (b.body, b.positives, b.negatives) (ap (lefts 0) (join_same empty_set empty_set (subset_refl empty_set)))
+inside_left_lem s (RuleWord A) p i x b = absurd i
+inside_left_lem s (Heading m n) p i x b = absurd i
+inside_left_lem s Invalid p i x b = absurd i
 
 -- what `rule_left` returns: the words of a rule, from their end
-pub rule-given : {words : List ℕ} {start end : ℕ} → RuleWords words start end → (s : NumberSet) {v : ℕ}
-    → v ≡ (foldFromEnd (insideLeft s) (lefts emptySet emptySet) (take (end - (start + 1)) (drop (start + 1) words))).rule.bits
-    → v ≡ ruleLeft s (ruleFrom words start)
-unfolding ruleRead bodyLeft bodiesLeft
-rule-given {words} {start} g s e =
+pub rule_given : {words : List ℕ} {start end : ℕ} → RuleWords words start end → (s : NumberSet) {v : ℕ}
+    → v ≡ (fold_from_end (inside_left s) (lefts empty_set empty_set) (take (end - (start + 1)) (drop (start + 1) words))).rule.bits
+    → v ≡ rule_left s (rule_from words start)
+unfolding rule_read body_left bodies_left
+rule_given {words} {start} g s e =
     e ∙ rw (
-      made_inside (insideLeft s) (left_of s) (inside-left s) g {x₀ = lefts emptySet emptySet}
+      made_inside (inside_left s) (left_of s) (inside_left_lem s) g {x₀ = lefts empty_set empty_set}
           (rw (g.ended.body, g.ended.positives, g.ended.negatives)),
       drop-cons words start 0 (omega (arith, g.some, g.within)),
     )

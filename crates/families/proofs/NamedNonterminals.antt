@@ -9,32 +9,32 @@ use denote.Enum.Declared.{tag_of}
 use types.Run.{OneOf, miss}
 use lib.ListN.{length, get_or}
 use borrow.Author.Tests.{ltb-true}
-use Rattle.word.specs.contracts.Word.{the_type}
+use Rattle.word.specs.inner.Word.{the_type}
 use Rattle.word.specs.declared.Symbol.TheVariants.{Terminal, Nonterminal}
 use Rattle.word.specs.declared.Word.{Word}
 use Rattle.word.specs.declared.Word.TheVariants.{Heading, Rule, Positive, Negative, Symbol, End, Invalid}
 use Rattle.word.specs.Words.{decoded}
 use Rattle.grammar.specs.declared.reading.Sizes.{Sizes}
 use Rattle.grammar.specs.declared.reading.Reading.TheVariants.{Read}
-use Rattle.grammar.specs.Limits.{maxNonterminals}
+use Rattle.grammar.specs.Limits.{max_nonterminals}
 use Rattle.grammar.specs.Reading.{in_range, reading}
-use Rattle.grammar.specs.contracts.WellRead.{head_of}
-use Rattle.grammar.proofs.EachIndex.{read-place}
-use Rattle.grammar.proofs.WellRead.{well-read}
-use Rattle.families.specs.contracts.Naming.{nonterminalOf, Indexed}
+use Rattle.grammar.specs.inner.WellRead.{head_of}
+use Rattle.grammar.proofs.EachIndex.{read_place}
+use Rattle.grammar.proofs.WellRead.{well_read}
+use Rattle.families.specs.inner.Naming.{nonterminal_of, Indexed}
 
 -- every kind of word but a rule's begin has no head
-pub no-head-of : (w : Word) → OneOf (0 ∷ 2 ∷ 3 ∷ 4 ∷ 5 ∷ 6 ∷ []) (tag_of the_type w) → head_of w ≡ 0
-no-head-of (Rule A) h = absurd (miss (0 ∷ 2 ∷ 3 ∷ 4 ∷ 5 ∷ 6 ∷ []) 1 tt h)
-no-head-of (Heading n t) h = refl
-no-head-of Positive h = refl
-no-head-of Negative h = refl
-no-head-of (Symbol X) h = refl
-no-head-of End h = refl
-no-head-of Invalid h = refl
+pub no_head_of : (w : Word) → OneOf (0 ∷ 2 ∷ 3 ∷ 4 ∷ 5 ∷ 6 ∷ []) (tag_of the_type w) → head_of w ≡ 0
+no_head_of (Rule A) h = absurd (miss (0 ∷ 2 ∷ 3 ∷ 4 ∷ 5 ∷ 6 ∷ []) 1 tt h)
+no_head_of (Heading n t) h = refl
+no_head_of Positive h = refl
+no_head_of Negative h = refl
+no_head_of (Symbol X) h = refl
+no_head_of End h = refl
+no_head_of Invalid h = refl
 
 -- every kind of word but a symbol names no nonterminal of a body
-pub no_name : (w : Word) → OneOf (0 ∷ 1 ∷ 2 ∷ 3 ∷ 5 ∷ 6 ∷ []) (tag_of the_type w) → nonterminalOf w ≡ none
+pub no_name : (w : Word) → OneOf (0 ∷ 1 ∷ 2 ∷ 3 ∷ 5 ∷ 6 ∷ []) (tag_of the_type w) → nonterminal_of w ≡ none
 no_name (Symbol X) h = absurd (miss (0 ∷ 1 ∷ 2 ∷ 3 ∷ 5 ∷ 6 ∷ []) 4 tt h)
 no_name (Heading n t) h = refl
 no_name (Rule A) h = refl
@@ -46,34 +46,34 @@ no_name Invalid h = refl
 -- what is named has a set
 abbrev pub IndexedName : Option ℕ → Type 0
 IndexedName none = Unit {0}
-IndexedName (some A) = A < maxNonterminals
+IndexedName (some A) = A < max_nonterminals
 
-pub name-indexed : (w : Word) → Indexed w → IndexedName (nonterminalOf w)
-name-indexed (Symbol (Terminal a)) h = tt
-name-indexed (Symbol (Nonterminal A)) h = h
-name-indexed (Heading n t) h = tt
-name-indexed (Rule A) h = tt
-name-indexed Positive h = tt
-name-indexed Negative h = tt
-name-indexed End h = tt
-name-indexed Invalid h = tt
+pub name_indexed : (w : Word) → Indexed w → IndexedName (nonterminal_of w)
+name_indexed (Symbol (Terminal a)) h = tt
+name_indexed (Symbol (Nonterminal A)) h = h
+name_indexed (Heading n t) h = tt
+name_indexed (Rule A) h = tt
+name_indexed Positive h = tt
+name_indexed Negative h = tt
+name_indexed End h = tt
+name_indexed Invalid h = tt
 
-in-range-indexed : (w : Word) (z : Sizes) → z.nonterminals ≤ maxNonterminals → in_range w z ≡ true → Indexed w
-in-range-indexed (Rule A) z h e = omega (arith, ltb-true A z.nonterminals e)
-in-range-indexed (Symbol (Terminal a)) z h e = tt
-in-range-indexed (Symbol (Nonterminal A)) z h e = omega (arith, ltb-true A z.nonterminals e)
-in-range-indexed Positive z h e = tt
-in-range-indexed Negative z h e = tt
-in-range-indexed End z h e = tt
-in-range-indexed (Heading n t) z h e = tt
-in-range-indexed Invalid z h e = tt
+in_range_indexed : (w : Word) (z : Sizes) → z.nonterminals ≤ max_nonterminals → in_range w z ≡ true → Indexed w
+in_range_indexed (Rule A) z h e = omega (arith, ltb-true A z.nonterminals e)
+in_range_indexed (Symbol (Terminal a)) z h e = tt
+in_range_indexed (Symbol (Nonterminal A)) z h e = omega (arith, ltb-true A z.nonterminals e)
+in_range_indexed Positive z h e = tt
+in_range_indexed Negative z h e = tt
+in_range_indexed End z h e = tt
+in_range_indexed (Heading n t) z h e = tt
+in_range_indexed Invalid z h e = tt
 
 -- each word of a row that is read, at an index and before one
-pub word-indexed : (words : List ℕ) {z : Sizes} {w : Word} {i : ℕ} → reading words ≡ Read z → i < length words → w ≡ decoded (get_or words i 0)
+pub word_indexed : (words : List ℕ) {z : Sizes} {w : Word} {i : ℕ} → reading words ≡ Read z → i < length words → w ≡ decoded (get_or words i 0)
     → Indexed w
-word-indexed words {z} {w} {i} e h is =
-    rw is (in-range-indexed (decoded (get_or words i 0)) z (well-read words z e).fewNonterminals (read-place words z e i h).ranged)
+word_indexed words {z} {w} {i} e h is =
+    rw is (in_range_indexed (decoded (get_or words i 0)) z (well_read words z e).few_nonterminals (read_place words z e i h).ranged)
 
-pub before-indexed : (words : List ℕ) {z : Sizes} {w : Word} {i : ℕ} → reading words ≡ Read z → 0 < i → i ≤ length words
+pub before_indexed : (words : List ℕ) {z : Sizes} {w : Word} {i : ℕ} → reading words ≡ Read z → 0 < i → i ≤ length words
     → w ≡ decoded (get_or words (i - 1) 0) → Indexed w
-before-indexed words e h k is = word-indexed words e (omega arith) is
+before_indexed words e h k is = word_indexed words e (omega arith) is

@@ -7,61 +7,61 @@ use native.Mathlib.Decide.{dec_lt}
 use native.Mathlib.Omega.{arith}
 use lib.Dec.{T}
 use lib.ListN.{get_or-eq_default}
-use Rattle.grammar.specs.Limits.{maxNonterminals}
+use Rattle.grammar.specs.Limits.{max_nonterminals}
 use Rattle.grammar.specs.Syntax.{Grammar}
 use Rattle.base.specs.Strings.{Lookahead as Looked}
 use Rattle.semantics.specs.FirstFollow.{Entry}
 use Rattle.lookahead.specs.declared.Lookahead.{Lookahead}
-use Rattle.lookahead.specs.Lookaheads.{tokens, elementOf, stringOf}
-use Rattle.lookahead.specs.contracts.Lookaheads.{alphabet}
+use Rattle.lookahead.specs.Lookaheads.{tokens, element_of, string_of}
+use Rattle.lookahead.specs.inner.Lookaheads.{alphabet}
 use Rattle.lookahead.specs.Elements.{has}
-use Rattle.lookahead.proofs.Order.{subset-antisym, empty-least}
-use Rattle.families.specs.contracts.Least.{SetFamily, at, LeastNumbers}
+use Rattle.lookahead.proofs.Order.{subset_antisym, empty_least}
+use Rattle.families.specs.inner.Least.{SetFamily, at, LeastNumbers}
 use Rattle.base.specs.Lists.{listed}
-use Rattle.families.specs.Sets.{setNumber}
-use Rattle.base.proofs.Lists.{listed-long, listed_at}
-use Rattle.families.proofs.Strings.{lookahead-string, lookahead-bound, StringIn, in-string, number-has, has-number}
+use Rattle.families.specs.Sets.{set_number}
+use Rattle.base.proofs.Lists.{listed_long, listed_at}
+use Rattle.families.proofs.Strings.{lookahead_string, lookahead_bound, StringIn, in_string, number_has, has_number}
 
 -- the sets of strings that pass, by nonterminal
-abbrev pub numbersOf : Lookahead → (Entry → Bool) → SetFamily
-numbersOf k p A = setNumber k (λ x. p (A, x))
+abbrev pub numbers_of : Lookahead → (Entry → Bool) → SetFamily
+numbers_of k p A = set_number k (λ x. p (A, x))
 
 module _ (k : Lookahead) (G : Grammar) (few : G.terminals ≤ alphabet k) (p : Entry → Bool)
     (within : (A : ℕ) (x : List ℕ) → T (p (A, x)) → (A < G.nonterminals) × Looked (tokens k) G.terminals x) where
   -- the numbers hold these strings and no others
-  pub number-string : (A : ℕ) (x : List ℕ) → StringIn k (numbersOf k p A) x → T (p (A, x))
-  number-string A x i = rw i.3 (number-has k (λ x. p (A, x)) i.0 i.2)
+  pub number_string : (A : ℕ) (x : List ℕ) → StringIn k (numbers_of k p A) x → T (p (A, x))
+  number_string A x i = rw i.3 (number_has k (λ x. p (A, x)) i.0 i.2)
 
-  pub string-number : (A l : ℕ) → T (p (A, stringOf k l)) → T (has (numbersOf k p A) l)
-  string-number A l t = has-number k (λ x. p (A, x)) l (lookahead-bound k G.terminals l few (within A (stringOf k l) t).1) t
+  pub string_number : (A l : ℕ) → T (p (A, string_of k l)) → T (has (numbers_of k p A) l)
+  string_number A l t = has_number k (λ x. p (A, x)) l (lookahead_bound k G.terminals l few (within A (string_of k l) t).1) t
 
-  pub in-number : (A : ℕ) (x : List ℕ) → T (p (A, x)) → StringIn k (numbersOf k p A) x
-  in-number A x t =
-      let s = lookahead-string k G.terminals x few (within A x t).1 in
-      (elementOf k x, s.below, string-number A (elementOf k x) (rw s.is at t), s.is)
+  pub in_number : (A : ℕ) (x : List ℕ) → T (p (A, x)) → StringIn k (numbers_of k p A) x
+  in_number A x t =
+      let s = lookahead_string k G.terminals x few (within A x t).1 in
+      (element_of k x, s.below, string_number A (element_of k x) (rw s.is at t), s.is)
 
   -- an element of a number is a string that passes
-  pub element-passes : (A l : ℕ) → T (has (numbersOf k p A) l) → T (p (A, stringOf k l))
-  element-passes A l s = number-has k (λ x. p (A, x)) l s
+  pub element_passes : (A l : ℕ) → T (has (numbers_of k p A) l) → T (p (A, string_of k l))
+  element_passes A l s = number_has k (λ x. p (A, x)) l s
 
   -- a number that is no nonterminal's has the empty set
-  pub number-outside : (A : ℕ) → G.nonterminals ≤ A → numbersOf k p A ≡ 0
-  number-outside A h =
-      subset-antisym (numbersOf k p A) 0 (λ l s. absurd (omega (arith, (within A (stringOf k l) (element-passes A l s)).0))) (empty-least (numbersOf k p A))
+  pub number_outside : (A : ℕ) → G.nonterminals ≤ A → numbers_of k p A ≡ 0
+  number_outside A h =
+      subset_antisym (numbers_of k p A) 0 (λ l s. absurd (omega (arith, (within A (string_of k l) (element_passes A l s)).0))) (empty_least (numbers_of k p A))
 
   -- where the numbers are closed and the strings are in every closed array, the least array has the numbers
-  pub least-numbers : (Closed : SetFamily → Type 0) → Closed (numbersOf k p) → (l : List ℕ) → LeastNumbers Closed l
-      → ((A : ℕ) (x : List ℕ) → T (p (A, x)) → StringIn k (at l A) x) → (A : ℕ) → at l A ≡ numbersOf k p A
-  least-numbers Closed closed l least strings A =
-      subset-antisym (at l A) (numbersOf k p A) (least.least (numbersOf k p) closed A)
-      (λ m s. in-string k (at l A) m (strings A (stringOf k m) (element-passes A m s)))
+  pub least_numbers : (Closed : SetFamily → Type 0) → Closed (numbers_of k p) → (l : List ℕ) → LeastNumbers Closed l
+      → ((A : ℕ) (x : List ℕ) → T (p (A, x)) → StringIn k (at l A) x) → (A : ℕ) → at l A ≡ numbers_of k p A
+  least_numbers Closed closed l least strings A =
+      subset_antisym (at l A) (numbers_of k p A) (least.least (numbers_of k p) closed A)
+      (λ m s. in_string k (at l A) m (strings A (string_of k m) (element_passes A m s)))
 
   -- and so an array of them that is long enough has all of them
-  pub array_at : G.nonterminals ≤ maxNonterminals → (A : ℕ) → at (listed maxNonterminals (numbersOf k p)) A ≡ numbersOf k p A
-  array_at many A = go (dec_lt A maxNonterminals)
+  pub array_at : G.nonterminals ≤ max_nonterminals → (A : ℕ) → at (listed max_nonterminals (numbers_of k p)) A ≡ numbers_of k p A
+  array_at many A = go (dec_lt A max_nonterminals)
     where
-      go : Dec (A < maxNonterminals) → at (listed maxNonterminals (numbersOf k p)) A ≡ numbersOf k p A
-      go (yes h) = listed_at maxNonterminals (numbersOf k p) A h
+      go : Dec (A < max_nonterminals) → at (listed max_nonterminals (numbers_of k p)) A ≡ numbers_of k p A
+      go (yes h) = listed_at max_nonterminals (numbers_of k p) A h
       go (no h) =
-          get_or-eq_default (listed maxNonterminals (numbersOf k p)) 0 (omega (arith, listed-long maxNonterminals (numbersOf k p)))
-          ∙ sym (number-outside A (omega arith))
+          get_or-eq_default (listed max_nonterminals (numbers_of k p)) 0 (omega (arith, listed_long max_nonterminals (numbers_of k p)))
+          ∙ sym (number_outside A (omega arith))

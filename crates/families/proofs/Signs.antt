@@ -8,32 +8,32 @@ use denote.Enum.Declared.{tag_of}
 use types.Run.{OneOf, miss}
 use lib.ListN.{length, get_or, take, drop, length-drop}
 use lib.Seq.{length-take-le, get_or-take, get_or-drop}
-use Rattle.word.specs.contracts.Word.{the_type}
+use Rattle.word.specs.inner.Word.{the_type}
 use Rattle.word.specs.declared.Word.{Word}
 use Rattle.word.specs.declared.Word.TheVariants.{Negative}
 use Rattle.word.specs.Words.{decoded}
 use Rattle.grammar.specs.Encoding.{on_word, parse}
-use Rattle.grammar.proofs.EachIndex.{read-place}
-use Rattle.families.specs.contracts.Rules.{RuleWords, BodyWords, NegativesFrom}
-use Rattle.families.proofs.Words.{parse-here}
-use Rattle.families.proofs.Inner.{bodies-between}
+use Rattle.grammar.proofs.EachIndex.{read_place}
+use Rattle.families.specs.inner.Rules.{RuleWords, BodyWords, NegativesFrom}
+use Rattle.families.proofs.Words.{parse_here}
+use Rattle.families.proofs.Inner.{bodies_between}
 
 -- which words begin a negative
 pub not_negative : (w : Word) → OneOf (0 ∷ 1 ∷ 2 ∷ 4 ∷ 5 ∷ 6 ∷ []) (tag_of the_type w) → w ≡ Negative → ⊥
 not_negative w h e = absurd (miss (0 ∷ 1 ∷ 2 ∷ 4 ∷ 5 ∷ 6 ∷ []) 3 tt (rw e at h))
 
-pub none-till : (words : List ℕ) {from : ℕ} (n : ℕ) → ((i : ℕ) → from ≤ i → i < n → decoded (get_or words i 0) ≡ Negative → ⊥)
+pub none_till : (words : List ℕ) {from : ℕ} (n : ℕ) → ((i : ℕ) → from ≤ i → i < n → decoded (get_or words i 0) ≡ Negative → ⊥)
     → (decoded (get_or words n 0) ≡ Negative → ⊥) → (i : ℕ) → from ≤ i → i < n + 1 → decoded (get_or words i 0) ≡ Negative → ⊥
-none-till words n before here i l h e = go (dec_lt i n)
+none_till words n before here i l h e = go (dec_lt i n)
   where
     go : Dec (i < n) → ⊥
     go (yes k) = before i l k e
     go (no k) = let q : i ≡ n = omega arith in here (rw q at e)
 
 -- of a part of the words
-negatives-among : (words : List ℕ) (from end : ℕ) {r : ℕ} → from ≤ end → end ≤ length words
+negatives_among : (words : List ℕ) (from end : ℕ) {r : ℕ} → from ≤ end → end ≤ length words
     → NegativesFrom (take (end - from) (drop from words)) 0 (length (take (end - from) (drop from words))) r → NegativesFrom words from end (from + r)
-negatives-among words from end {r} h k f = record {
+negatives_among words from end {r} h k f = record {
   low = omega arith;
   high = omega (arith, f.high, long);
   here = λ l. sym (same r (omega arith)) ∙ f.here (omega (arith, long));
@@ -49,33 +49,33 @@ negatives-among words from end {r} h k f = record {
     same i m = ap decoded (get_or-take (end - from) (drop from words) i 0 m ∙ get_or-drop from words i 0)
 
 -- of a rule's words
-pub negatives-inside : {words : List ℕ} {start end : ℕ} → RuleWords words start end → {r : ℕ}
+pub negatives_inside : {words : List ℕ} {start end : ℕ} → RuleWords words start end → {r : ℕ}
     → NegativesFrom (take (end - (start + 1)) (drop (start + 1) words)) 0 (length (take (end - (start + 1)) (drop (start + 1) words))) r
     → NegativesFrom words (start + 1) end (start + 1 + r)
-negatives-inside {words} {start} {end} k f = negatives-among words (start + 1) end (omega (arith, k.some)) k.within f
+negatives_inside {words} {start} {end} k f = negatives_among words (start + 1) end (omega (arith, k.some)) k.within f
 
 -- a rule by its parts
 module _ {words : List ℕ} {start end : ℕ} (given : RuleWords words start end) {n : ℕ} (f : NegativesFrom words (start + 1) end n) where
-  no-body-there : (parse (drop n words)).body ≡ []
+  no_body_there : (parse (drop n words)).body ≡ []
   unfolding on_word
-  no-body-there = go (dec_lt n end)
+  no_body_there = go (dec_lt n end)
     where
       go : Dec (n < end) → (parse (drop n words)).body ≡ []
-      go (yes h) = rw (parse-here words n (omega (arith, given.within)), f.here h)
+      go (yes h) = rw (parse_here words n (omega (arith, given.within)), f.here h)
       go (no h) = let e : n ≡ end = omega (arith, f.high) in rw e given.ended.body
 
-  pub no-positives-there : (parse (drop n words)).positives ≡ []
+  pub no_positives_there : (parse (drop n words)).positives ≡ []
   unfolding on_word
-  no-positives-there = go (dec_lt n end)
+  no_positives_there = go (dec_lt n end)
     where
       go : Dec (n < end) → (parse (drop n words)).positives ≡ []
       go (yes h) =
           let low : n < length words = omega (arith, given.within) in
-          rw (parse-here words n low, f.here h) (rw (f.here h) at (read-place words given.sizes given.read n low).behind)
+          rw (parse_here words n low, f.here h) (rw (f.here h) at (read_place words given.sizes given.read n low).behind)
       go (no h) = let e : n ≡ end = omega (arith, f.high) in rw e given.ended.positives
 
-  pub negative-words : BodyWords words n end
-  negative-words = bodies-between given (omega (arith, f.low)) f.high (omega arith) given.ended.body
+  pub negative_words : BodyWords words n end
+  negative_words = bodies_between given (omega (arith, f.low)) f.high (omega arith) given.ended.body
 
-  pub positive-words : BodyWords words (start + 1) n
-  positive-words = bodies-between given (omega arith) f.low f.high no-body-there
+  pub positive_words : BodyWords words (start + 1) n
+  positive_words = bodies_between given (omega arith) f.low f.high no_body_there

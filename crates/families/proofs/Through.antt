@@ -9,22 +9,22 @@ use lib.ListN.{length, set, length-set, length-map}
 use lib.Seq.{get_or-set_same, get_or-set_other, ext_get_or}
 use Rattle.base.specs.Choice.{choose}
 use Rattle.lookahead.specs.Elements.{has}
-use Rattle.lookahead.specs.contracts.Operations.{join}
-use Rattle.lookahead.proofs.Order.{empty-least, join-same}
-use Rattle.families.specs.contracts.Least.{at}
-use Rattle.families.specs.contracts.Reach.{extended, through}
-use Rattle.families.proofs.Closure.{through-at}
+use Rattle.lookahead.specs.inner.Operations.{join}
+use Rattle.lookahead.proofs.Order.{empty_least, join_same}
+use Rattle.families.specs.inner.Least.{at}
+use Rattle.families.specs.inner.Reach.{extended, through}
+use Rattle.families.proofs.Closure.{through_at}
 
-pub through-long : (B : ℕ) (l : List ℕ) → length (through B l) ≡ length l
+pub through_long : (B : ℕ) (l : List ℕ) → length (through B l) ≡ length l
 unfolding through
-through-long B l = length-map l (extended B (at l B))
+through_long B l = length-map l (extended B (at l B))
 
 -- nothing is beyond B
-pub through-none : (B : ℕ) (l : List ℕ) → at l B ≡ 0 → l ≡ through B l
-through-none B l e = ext_get_or 0 l (through B l) (sym (through-long B l)) (λ A h. sym (through-at B l A ∙ rw e (go (at l A) (has (at l A) B))))
+pub through_none : (B : ℕ) (l : List ℕ) → at l B ≡ 0 → l ≡ through B l
+through_none B l e = ext_get_or 0 l (through B l) (sym (through_long B l)) (λ A h. sym (through_at B l A ∙ rw e (go (at l A) (has (at l A) B))))
   where
     go : (s : ℕ) (b : Bool) → choose b (join s 0) s ≡ s
-    go s true = join-same s 0 (empty-least s)
+    go s true = join_same s 0 (empty_least s)
     go s false = refl
 
 -- a walk that has come to i
@@ -49,4 +49,4 @@ module _ {B : ℕ} {l₀ l : List ℕ} {i : ℕ} (w : Walked B l₀ l i) where
       before A (no n) b = rw s (get_or-set_other l i A v 0 n) ∙ w.before A (omega (arith, b, n))
 
   pub walked_all : length l₀ ≤ i → l ≡ through B l₀
-  walked_all h = ext_get_or 0 l (through B l₀) (w.long ∙ sym (through-long B l₀)) (λ A b. w.before A (omega (arith, w.long)) ∙ sym (through-at B l₀ A))
+  walked_all h = ext_get_or 0 l (through B l₀) (w.long ∙ sym (through_long B l₀)) (λ A b. w.before A (omega (arith, w.long)) ∙ sym (through_at B l₀ A))

@@ -3,42 +3,42 @@ use Rattle.std.specs.Prelude.{List, [], ◌∷◌, ℕ}
 use Rattle.std.proofs.Math.Option.{Option, none, some}
 use Rattle.answer.specs.declared.Error.{Error}
 use Rattle.answer.specs.declared.Error.TheVariants.{LeftRecursive, Unproductive}
-use Rattle.answer.specs.Faults.{firstFault}
-use Rattle.grammar.specs.Encoding.{grammarOf}
+use Rattle.answer.specs.Faults.{first_fault}
+use Rattle.grammar.specs.Encoding.{grammar_of}
 use Rattle.grammar.specs.declared.reading.Reading.{Reading}
 use Rattle.grammar.specs.declared.reading.Reading.TheVariants.{Read, Faulty}
 use Rattle.lookahead.specs.declared.Lookahead.{Lookahead}
 use Rattle.lookahead.specs.Lookaheads.{tokens}
 use Rattle.admission.specs.Admission.{admission}
-use Rattle.semantics.specs.LeftRecursion.{lowestLeftRecursive}
-use Rattle.semantics.specs.Productive.{lowestUnproductive}
+use Rattle.semantics.specs.LeftRecursion.{lowest_left_recursive}
+use Rattle.semantics.specs.Productive.{lowest_unproductive}
 use Rattle.families.specs.declared.Finding.{Finding}
 use Rattle.families.specs.declared.Finding.TheVariants.{Passed, Refused}
 
 -- 3 to 7 and 18
-abbrev pub readingFault : Reading → Option Error
-readingFault (Read z) = none
-readingFault (Faulty e) = some e
+abbrev pub reading_fault : Reading → Option Error
+reading_fault (Read z) = none
+reading_fault (Faulty e) = some e
 
 -- 8: the lowest nonterminal that left-reaches itself
-abbrev pub leftFault : Option ℕ → Option Error
-leftFault none = none
-leftFault (some A) = some (LeftRecursive A)
+abbrev pub left_fault : Option ℕ → Option Error
+left_fault none = none
+left_fault (some A) = some (LeftRecursive A)
 
 -- 13: the lowest nonterminal whose first set is empty
-abbrev pub unproductiveFault : Option ℕ → Option Error
-unproductiveFault none = none
-unproductiveFault (some A) = some (Unproductive A)
+abbrev pub unproductive_fault : Option ℕ → Option Error
+unproductive_fault none = none
+unproductive_fault (some A) = some (Unproductive A)
 
-abbrev pub setsFaults : Lookahead → List ℕ → List (Option Error)
-setsFaults k words =
-    readingFault (admission k words)
-    ∷ leftFault (lowestLeftRecursive (grammarOf words)) ∷ unproductiveFault (lowestUnproductive (grammarOf words) (tokens k)) ∷ []
+abbrev pub sets_faults : Lookahead → List ℕ → List (Option Error)
+sets_faults k words =
+    reading_fault (admission k words)
+    ∷ left_fault (lowest_left_recursive (grammar_of words)) ∷ unproductive_fault (lowest_unproductive (grammar_of words) (tokens k)) ∷ []
 
-unfoldable pub setsFault : Lookahead → List ℕ → Option Error
-setsFault k words = firstFault (setsFaults k words)
+unfoldable pub sets_fault : Lookahead → List ℕ → Option Error
+sets_fault k words = first_fault (sets_faults k words)
 
-abbrev pub findingOf : Option Error → Reading → Finding
-findingOf (some e) o = Refused e
-findingOf none (Read z) = Passed z
-findingOf none (Faulty e) = Refused e
+abbrev pub finding_of : Option Error → Reading → Finding
+finding_of (some e) o = Refused e
+finding_of none (Read z) = Passed z
+finding_of none (Faulty e) = Refused e

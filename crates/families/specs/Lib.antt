@@ -1,3 +1,3 @@
 pub mod Sets
 pub mod Analysis
-pub mod contracts
+pub mod inner

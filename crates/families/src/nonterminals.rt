@@ -1,9 +1,9 @@
 // A set of nonterminals by value.
 ghost use Rattle.std.specs.Prelude.{◌≡◌, min};
-ghost use Rattle.grammar.specs.Limits.{maxNonterminals};
+ghost use Rattle.grammar.specs.Limits.{max_nonterminals};
 ghost use Rattle.lookahead.specs.Elements.{has};
-ghost use Rattle.lookahead.specs.contracts.Operations.{Empty, Joined};
-ghost use Rattle.families.specs.contracts.Nonterminals.{Alone};
+ghost use Rattle.lookahead.specs.inner.Operations.{Empty, Joined};
+ghost use Rattle.families.specs.inner.Nonterminals.{Alone};
 
 use grammar::limits::NONTERMINALS;
 
@@ -55,7 +55,7 @@ impl Nonterminals {
 
 // As many nonterminals as there are sets for.
 pub fn at_most(nonterminals: u32) -> u32
-    ensures { result ≡ min nonterminals maxNonterminals }
+    ensures { result ≡ min nonterminals max_nonterminals }
 {
     if nonterminals < NONTERMINALS {
         nonterminals

@@ -7,21 +7,21 @@ use native.Mathlib.Numerals.{add-one}
 use lib.ListN.{length, get_or, take, set}
 use lib.Seq.{sets, take-suc, take_all, length-take-le}
 use borrow.Author.Tests.{lt-leb, le-leb, eq-eqb, ne_eqb}
-use Rattle.grammar.specs.Limits.{maxWords}
+use Rattle.grammar.specs.Limits.{max_words}
 use Rattle.file_words.specs.declared.Loaded.TheVariants.{Words, NotWords}
-use Rattle.file_words.specs.Words.{bytesOfWord, words_of, areWords}
-use Rattle.file_words.specs.contracts.Words.{fourAt, Loading}
-use Rattle.text.proofs.Writing.{sets-append}
+use Rattle.file_words.specs.Words.{bytes_of_word, words_of, are_words}
+use Rattle.file_words.specs.inner.Words.{four_at, Loading}
+use Rattle.text.proofs.Writing.{sets_append}
 
-pub length-words : (bytes : List ℕ) → length (words_of bytes) ≡ length bytes / bytesOfWord
+pub length_words : (bytes : List ℕ) → length (words_of bytes) ≡ length bytes / bytes_of_word
 unfolding words_of
-length-words [] = refl
-length-words (a ∷ []) = refl
-length-words (a ∷ b ∷ []) = refl
-length-words (a ∷ b ∷ c ∷ []) = refl
-length-words (a ∷ b ∷ c ∷ d ∷ rest) = let e = length-words rest in omega arith
+length_words [] = refl
+length_words (a ∷ []) = refl
+length_words (a ∷ b ∷ []) = refl
+length_words (a ∷ b ∷ c ∷ []) = refl
+length_words (a ∷ b ∷ c ∷ d ∷ rest) = let e = length_words rest in omega arith
 
-pub word_at : (bytes : List ℕ) (i : ℕ) → bytesOfWord * i + 3 < length bytes → get_or (words_of bytes) i 0 ≡ fourAt bytes (bytesOfWord * i)
+pub word_at : (bytes : List ℕ) (i : ℕ) → bytes_of_word * i + 3 < length bytes → get_or (words_of bytes) i 0 ≡ four_at bytes (bytes_of_word * i)
 unfolding words_of
 word_at [] i h = absurd (omega arith)
 word_at (a ∷ []) i h = absurd (omega arith)
@@ -36,32 +36,32 @@ word_at (a ∷ b ∷ c ∷ d ∷ rest) (suc i) h =
     rw (e0, e1, e2, e3) (word_at rest i (omega arith))
 
 -- one word more behind the words put
-pub one_more : (bytes before : List ℕ) (i : ℕ) {words : List ℕ} {v : ℕ} → i < length bytes / bytesOfWord →
-    words ≡ sets before 0 (take i (words_of bytes)) → v ≡ fourAt bytes (bytesOfWord * i) → set words i v ≡ sets before 0 (take (i + 1) (words_of bytes))
+pub one_more : (bytes before : List ℕ) (i : ℕ) {words : List ℕ} {v : ℕ} → i < length bytes / bytes_of_word →
+    words ≡ sets before 0 (take i (words_of bytes)) → v ≡ four_at bytes (bytes_of_word * i) → set words i v ≡ sets before 0 (take (i + 1) (words_of bytes))
 one_more bytes before i {words} {v} h w e =
-    let l : i < length (words_of bytes) = omega (arith, length-words bytes) in
+    let l : i < length (words_of bytes) = omega (arith, length_words bytes) in
     let n : 0 + length (take i (words_of bytes)) ≡ i = omega (arith, length-take-le i (words_of bytes) (omega arith)) in
     let x : v ≡ get_or (words_of bytes) i 0 = e ∙ sym (word_at bytes i (omega arith)) in
-    rw (add-one i, take-suc (words_of bytes) i 0 l, sets-append (take i (words_of bytes)) (get_or (words_of bytes) i 0 ∷ []) before 0, n, w, x)
+    rw (add-one i, take-suc (words_of bytes) i 0 l, sets_append (take i (words_of bytes)) (get_or (words_of bytes) i 0 ∷ []) before 0, n, w, x)
 
-pub too_long : (bytes before : List ℕ) → bytesOfWord * maxWords < length bytes → Loading bytes before NotWords before
-unfolding areWords
-too_long bytes before h = let t = lt-leb (length bytes) (bytesOfWord * maxWords) h in record { told = rw t; words = rw t }
+pub too_long : (bytes before : List ℕ) → bytes_of_word * max_words < length bytes → Loading bytes before NotWords before
+unfolding are_words
+too_long bytes before h = let t = lt-leb (length bytes) (bytes_of_word * max_words) h in record { told = rw t; words = rw t }
 
-module _ (bytes before : List ℕ) (h : length bytes ≤ bytesOfWord * maxWords) where
-  pub cut_short : (length bytes % bytesOfWord ≡ 0 → ⊥) → Loading bytes before NotWords before
-  unfolding areWords
+module _ (bytes before : List ℕ) (h : length bytes ≤ bytes_of_word * max_words) where
+  pub cut_short : (length bytes % bytes_of_word ≡ 0 → ⊥) → Loading bytes before NotWords before
+  unfolding are_words
   cut_short e =
-      let t = le-leb (length bytes) (bytesOfWord * maxWords) h in
-      let u = ne_eqb (length bytes % bytesOfWord) 0 e in
+      let t = le-leb (length bytes) (bytes_of_word * max_words) h in
+      let u = ne_eqb (length bytes % bytes_of_word) 0 e in
       record { told = rw (t, u); words = rw (t, u) }
 
-  pub all-loaded : length bytes % bytesOfWord ≡ 0 → (i : ℕ) {words : List ℕ} → i ≤ length bytes / bytesOfWord → length bytes / bytesOfWord ≤ i →
+  pub all_loaded : length bytes % bytes_of_word ≡ 0 → (i : ℕ) {words : List ℕ} → i ≤ length bytes / bytes_of_word → length bytes / bytes_of_word ≤ i →
       words ≡ sets before 0 (take i (words_of bytes)) → Loading bytes before (Words i) words
-  unfolding areWords
-  all-loaded e i {words} a b w =
-      let t = le-leb (length bytes) (bytesOfWord * maxWords) h in
-      let u = eq-eqb (length bytes % bytesOfWord) 0 e in
-      let n : i ≡ length bytes / bytesOfWord = omega arith in
-      let s : take i (words_of bytes) ≡ words_of bytes = take_all i (words_of bytes) (omega (arith, length-words bytes)) in
+  unfolding are_words
+  all_loaded e i {words} a b w =
+      let t = le-leb (length bytes) (bytes_of_word * max_words) h in
+      let u = eq-eqb (length bytes % bytes_of_word) 0 e in
+      let n : i ≡ length bytes / bytes_of_word = omega arith in
+      let s : take i (words_of bytes) ≡ words_of bytes = take_all i (words_of bytes) (omega (arith, length_words bytes)) in
       record { told = rw (t, u, n); words = w ∙ (rw (s, t, u)) }

@@ -1,7 +1,7 @@
 // The words that a file's bytes are, low byte first.
 ghost use Rattle.std.specs.Prelude.{◌≡◌, ◌+◌, ◌<◌, length};
-ghost use Rattle.file_words.specs.Words.{wordOfBytes};
-ghost use Rattle.file_words.specs.contracts.Words.{fourAt, Loading};
+ghost use Rattle.file_words.specs.Words.{word_of_bytes};
+ghost use Rattle.file_words.specs.inner.Words.{four_at, Loading};
 
 use grammar::limits::WORDS;
 
@@ -15,14 +15,14 @@ pub enum Loaded {
 pub const WORD_BYTES: usize = 4;
 
 fn word(a: u8, b: u8, c: u8, d: u8) -> u32
-    ensures { result ≡ wordOfBytes a b c d }
+    ensures { result ≡ word_of_bytes a b c d }
 {
     a as u32 + 256 * b as u32 + 65536 * c as u32 + 16777216 * d as u32
 }
 
 fn word_at(bytes: &[u8], at: usize) -> u32
     requires { at + 3 < length bytes.now }
-    ensures { result ≡ fourAt bytes.now at }
+    ensures { result ≡ four_at bytes.now at }
 {
     word(bytes[at], bytes[at + 1], bytes[at + 2], bytes[at + 3])
 }

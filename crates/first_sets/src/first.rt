@@ -1,18 +1,18 @@
 // First sets: passes over the rules until one adds nothing; the words of a rule's positives from their end.
 ghost use Rattle.std.specs.Prelude.{◌≡◌};
 ghost use Rattle.grammar.specs.declared.reading.Reading.TheVariants.{Read};
-ghost use Rattle.grammar.specs.Encoding.{parse, grammarOf};
-ghost use Rattle.grammar.specs.Limits.{maxNonterminals};
+ghost use Rattle.grammar.specs.Encoding.{parse, grammar_of};
+ghost use Rattle.grammar.specs.Limits.{max_nonterminals};
 ghost use Rattle.grammar.specs.Reading.{reading};
-ghost use Rattle.grammar.specs.contracts.Starts.{ruleStarts};
+ghost use Rattle.grammar.specs.inner.Starts.{rule_starts};
 ghost use Rattle.admission.specs.Admission.{admission};
-ghost use Rattle.families.specs.contracts.First.{FirstNumbersClosed, RulesMet};
-ghost use Rattle.families.specs.contracts.Least.{Passes};
+ghost use Rattle.families.specs.inner.First.{FirstNumbersClosed, RulesMet};
+ghost use Rattle.families.specs.inner.Least.{Passes};
 ghost use Rattle.base.specs.Lists.{listed};
-ghost use Rattle.families.specs.contracts.RuleLists.{byRule};
-ghost use Rattle.families.specs.contracts.Rules.{ByRules, PassGiven, PositiveEnds};
-ghost use Rattle.families.specs.Sets.{firstNumber};
-ghost use Rattle.families.specs.contracts.Sets.{meetNumbers};
+ghost use Rattle.families.specs.inner.RuleLists.{by_rule};
+ghost use Rattle.families.specs.inner.Rules.{ByRules, PassGiven, PositiveEnds};
+ghost use Rattle.families.specs.Sets.{first_number};
+ghost use Rattle.families.specs.inner.Sets.{meet_numbers};
 
 use families::SETS;
 use grammar::limits::RULES;
@@ -25,7 +25,7 @@ use word::decode;
 
 // Where the positives of each rule end. A place takes 16 bits, so that there is less to clear.
 fn positive_ends(words: &[u32], starts: &[usize; RULES], sizes: Sizes) -> [u16; RULES]
-    requires { (reading words.now ≡ Read sizes) × (starts.now ≡ ruleStarts words.now) }
+    requires { (reading words.now ≡ Read sizes) × (starts.now ≡ rule_starts words.now) }
     ensures { PositiveEnds words.now starts.now sizes.rules result }
 {
     let mut ends = [0u16; RULES];
@@ -83,9 +83,9 @@ pub(crate) fn first_sets(
     meets: &mut [u64; RULES],
     lookahead: Lookahead,
 )
-    requires { (admission lookahead words.now ≡ Read sizes) × (starts.now ≡ ruleStarts words.now) × ByRules sizes.rules meets.old }
-    ensures { (firsts.new ≡ listed maxNonterminals (firstNumber lookahead (grammarOf words.now)))
-        × (meets.new ≡ byRule (meetNumbers lookahead (grammarOf words.now))) }
+    requires { (admission lookahead words.now ≡ Read sizes) × (starts.now ≡ rule_starts words.now) × ByRules sizes.rules meets.old }
+    ensures { (firsts.new ≡ listed max_nonterminals (first_number lookahead (grammar_of words.now)))
+        × (meets.new ≡ by_rule (meet_numbers lookahead (grammar_of words.now))) }
 {
     *firsts = [0u64; SETS];
     let ends = positive_ends(words, starts, sizes);

@@ -1,16 +1,16 @@
 // Left recursion: what is at the left of each nonterminal's rules, by one pass over them, and all that this left-reaches.
 ghost use Rattle.std.specs.Prelude.{◌≡◌, length};
 ghost use Rattle.grammar.specs.declared.reading.Reading.TheVariants.{Read};
-ghost use Rattle.grammar.specs.Encoding.{parse, grammarOf};
-ghost use Rattle.grammar.specs.Limits.{maxNonterminals};
+ghost use Rattle.grammar.specs.Encoding.{parse, grammar_of};
+ghost use Rattle.grammar.specs.Limits.{max_nonterminals};
 ghost use Rattle.grammar.specs.Reading.{reading};
-ghost use Rattle.grammar.specs.contracts.Starts.{ruleStarts};
+ghost use Rattle.grammar.specs.inner.Starts.{rule_starts};
 ghost use Rattle.admission.specs.Admission.{admission};
-ghost use Rattle.families.specs.contracts.Least.{at as family, LeastNumbers};
-ghost use Rattle.families.specs.contracts.Left.{emptyIn, LeftClosed};
+ghost use Rattle.families.specs.inner.Least.{at as family, LeastNumbers};
+ghost use Rattle.families.specs.inner.Left.{empty_in, LeftClosed};
 ghost use Rattle.base.specs.Lists.{listed};
-ghost use Rattle.families.specs.Sets.{firstNumber};
-ghost use Rattle.families.specs.contracts.Sets.{reachNumber};
+ghost use Rattle.families.specs.Sets.{first_number};
+ghost use Rattle.families.specs.inner.Sets.{reach_number};
 
 use families::SETS;
 use grammar::limits::RULES;
@@ -30,9 +30,9 @@ fn at_left(
     firsts: &[u64; SETS],
     lookahead: Lookahead,
 ) -> [u32; SETS]
-    requires { (reading words.now ≡ Read sizes) × (starts.now ≡ ruleStarts words.now) }
-    ensures { (length result ≡ maxNonterminals)
-        × LeastNumbers (LeftClosed (emptyIn lookahead (family firsts.now)) (parse words.now).rules) result }
+    requires { (reading words.now ≡ Read sizes) × (starts.now ≡ rule_starts words.now) }
+    ensures { (length result ≡ max_nonterminals)
+        × LeastNumbers (LeftClosed (empty_in lookahead (family firsts.now)) (parse words.now).rules) result }
 {
     let mut sets = [0u32; SETS];
     let mut rule = 0;
@@ -56,9 +56,9 @@ pub(crate) fn reached(
     firsts: &[u64; SETS],
     lookahead: Lookahead,
 ) -> [u32; SETS]
-    requires { (admission lookahead words.now ≡ Read sizes) × (starts.now ≡ ruleStarts words.now)
-        × (firsts.now ≡ listed maxNonterminals (firstNumber lookahead (grammarOf words.now))) }
-    ensures { result ≡ listed maxNonterminals (reachNumber (grammarOf words.now)) }
+    requires { (admission lookahead words.now ≡ Read sizes) × (starts.now ≡ rule_starts words.now)
+        × (firsts.now ≡ listed max_nonterminals (first_number lookahead (grammar_of words.now))) }
+    ensures { result ≡ listed max_nonterminals (reach_number (grammar_of words.now)) }
 {
     let sets = at_left(words, starts, sizes, firsts, lookahead);
     closed(sets, sizes.nonterminals)

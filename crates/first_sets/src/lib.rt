@@ -2,7 +2,7 @@
 ghost use Rattle.std.specs.Prelude.{◌≡◌};
 ghost use Rattle.grammar.specs.declared.reading.Reading.TheVariants.{Read};
 ghost use Rattle.admission.specs.Admission.{admission};
-ghost use Rattle.families.specs.contracts.Analysis.{unfollowed, refusedBy, firstFamiliesOf};
+ghost use Rattle.families.specs.inner.Analysis.{unfollowed, refused_by, first_families_of};
 
 use admission::admit;
 use answer::Error;
@@ -26,7 +26,7 @@ fn refused(
     meets: &mut [u64; RULES],
     reaches: &mut [u32; SETS],
 ) -> Finding
-    ensures { unfollowed result starts.new firsts.new meets.new reaches.new ≡ refusedBy error }
+    ensures { unfollowed result starts.new firsts.new meets.new reaches.new ≡ refused_by error }
 {
     *starts = [0usize; RULES];
     *firsts = [0u64; SETS];
@@ -47,7 +47,7 @@ fn analyze_grammar(
 ) -> Finding
     requires { admission lookahead words.now ≡ Read sizes }
     ensures { unfollowed result starts.new firsts.new meets.new reaches.new
-        ≡ firstFamiliesOf lookahead words.now }
+        ≡ first_families_of lookahead words.now }
 {
     rule_starts(words, starts);
     *meets = [0u64; RULES];
@@ -71,7 +71,7 @@ pub fn analyze(
     reaches: &mut [u32; SETS],
 ) -> Finding
     ensures { unfollowed result starts.new firsts.new meets.new reaches.new
-        ≡ firstFamiliesOf lookahead words.now }
+        ≡ first_families_of lookahead words.now }
 {
     let outcome = admit(words, lookahead);
     match outcome {

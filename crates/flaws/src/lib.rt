@@ -1,8 +1,8 @@
 // What is found of a grammar by its sets: the lowest nonterminal with a flaw refuses it.
 ghost use Rattle.std.specs.Prelude.{◌≡◌, ◌≤◌, ◌<◌};
 ghost use Rattle.base.specs.Quantifiers.{lowest};
-ghost use Rattle.grammar.specs.Limits.{maxNonterminals};
-ghost use Rattle.families.specs.contracts.Flaws.{flawIn, lowestOf, findingIn};
+ghost use Rattle.grammar.specs.Limits.{max_nonterminals};
+ghost use Rattle.families.specs.inner.Flaws.{flaw_in, lowest_of, finding_in};
 
 use answer::Error;
 use families::nonterminals::{Nonterminals, at_most};
@@ -12,8 +12,8 @@ use lookahead_sets::LookaheadSet;
 
 // Whether a nonterminal has a flaw, by the first sets and by what each nonterminal left-reaches.
 fn has_flaw(flaw: Flaw, firsts: &[u64; SETS], reaches: &[u32; SETS], nonterminal: u32) -> bool
-    requires { nonterminal < maxNonterminals }
-    ensures { result ≡ flawIn flaw firsts.now reaches.now nonterminal }
+    requires { nonterminal < max_nonterminals }
+    ensures { result ≡ flaw_in flaw firsts.now reaches.now nonterminal }
 {
     match flaw {
         Flaw::LeftRecursive => {
@@ -33,8 +33,8 @@ fn has_flaw(flaw: Flaw, firsts: &[u64; SETS], reaches: &[u32; SETS], nonterminal
 
 // The lowest nonterminal with a flaw.
 fn lowest_with(flaw: Flaw, firsts: &[u64; SETS], reaches: &[u32; SETS], nonterminals: u32) -> Lowest
-    requires { nonterminals ≤ maxNonterminals }
-    ensures { result ≡ lowestOf (lowest nonterminals (flawIn flaw firsts.now reaches.now)) }
+    requires { nonterminals ≤ max_nonterminals }
+    ensures { result ≡ lowest_of (lowest nonterminals (flaw_in flaw firsts.now reaches.now)) }
 {
     let mut nonterminal = 0;
     while nonterminal < nonterminals {
@@ -48,7 +48,7 @@ fn lowest_with(flaw: Flaw, firsts: &[u64; SETS], reaches: &[u32; SETS], nontermi
 
 // Left recursion comes first.
 pub fn finding_of(sizes: Sizes, firsts: &[u64; SETS], reaches: &[u32; SETS]) -> Finding
-    ensures { result ≡ findingIn sizes firsts.now reaches.now }
+    ensures { result ≡ finding_in sizes firsts.now reaches.now }
 {
     let nonterminals = at_most(sizes.nonterminals);
     let recursive = lowest_with(Flaw::LeftRecursive, firsts, reaches, nonterminals);

@@ -9,15 +9,15 @@ use lib.Dec.{leb, le→leb, eqb_refl}
 use lib.ListN.{length}
 use Rattle.word.specs.declared.Symbol.TheVariants.{Terminal, Nonterminal}
 use Rattle.grammar.specs.Syntax.{Grammar}
-use Rattle.grammar.specs.examples.Cards.{grammarM, grammarE}
-use Rattle.base.specs.Quantifiers.{any_of, all_of, anyBelow}
-use Rattle.base.proofs.Booleans.{T_true, true-T, and-make}
-use Rattle.base.proofs.Quantified.{below-make}
-use Rattle.semantics.specs.Valuations.{Valuation, contains, derives, byRules, rounds, Solves, solution}
+use Rattle.grammar.specs.examples.Cards.{grammar_m, grammar_e}
+use Rattle.base.specs.Quantifiers.{any_of, all_of, any_below}
+use Rattle.base.proofs.Booleans.{T_true, true_T, and_make}
+use Rattle.base.proofs.Quantified.{below_make}
+use Rattle.semantics.specs.Valuations.{Valuation, contains, derives, by_rules, rounds, Solves, solution}
 use Rattle.semantics.specs.Predictive.{Predictive}
 use Rattle.semantics.proofs.Theorems.{theorems}
-use Rattle.semantics_examples.proofs.Check.{belowTest, scopedTest, terminalsTest, ownTest, predictive}
-use Rattle.semantics_examples.proofs.Computing.{left-recursion-computes, tables-compute}
+use Rattle.semantics_examples.proofs.Check.{below_test, scoped_test, terminals_test, own_test, predictive}
+use Rattle.semantics_examples.proofs.Computing.{left_recursion_computes, tables_compute}
 use Rattle.following.specs.Following.{MayFollow, start, behind}
 
 -- every valuation that solves a grammar on a sequence gives what the computed one gives
@@ -30,39 +30,39 @@ alone : (v : Valuation) (x : List ℕ) (A : ℕ) → v A 0 (length x) ≡ true �
 unfolding contains
 alone v x A e =
     let n : ℕ = length x in
-    T_true _ (below-make (suc n) _ n (omega arith) (and-make (leb 0 n) _ (le→leb 0 n (omega arith)) (and-make (v A 0 n) _ (true-T _ e) (eqb_refl n))))
+    T_true _ (below_make (suc n) _ n (omega arith) (and_make (leb 0 n) _ (le→leb 0 n (omega arith)) (and_make (v A 0 n) _ (true_T _ e) (eqb_refl n))))
 
-predictive-M : Predictive grammarM 1
-unfolding scopedTest belowTest ownTest terminalsTest left-recursion-computes tables-compute
-predictive-M = predictive grammarM 1 tt tt tt refl refl tt
+predictive_M : Predictive grammar_m 1
+unfolding scoped_test below_test own_test terminals_test left_recursion_computes tables_compute
+predictive_M = predictive grammar_m 1 tt tt tt refl refl tt
 
 -- S has the negative body B C, and c belongs to C: c may follow B
-c-in-C : (v : Valuation) → Solves grammarM (2 ∷ []) v → v 3 0 1 ≡ true
-unfolding solution rounds byRules derives contains any_of all_of anyBelow
-c-in-C v s = solved grammarM 1 predictive-M (2 ∷ []) v s 3 0 1 (omega arith) (omega arith) (omega arith)
+c_in_C : (v : Valuation) → Solves grammar_m (2 ∷ []) v → v 3 0 1 ≡ true
+unfolding solution rounds by_rules derives contains any_of all_of any_below
+c_in_C v s = solved grammar_m 1 predictive_M (2 ∷ []) v s 3 0 1 (omega arith) (omega arith) (omega arith)
 
-c-follows-B : MayFollow grammarM 2 (2 ∷ [])
+c_follows_B : MayFollow grammar_m 2 (2 ∷ [])
 unfolding all_of
-c-follows-B = behind _ (Memᴰ.head refl) [] 2 (Nonterminal 3 ∷ []) (Memᴰ.tail (Memᴰ.head refl))
-    (2 ∷ []) (record { terminals = tt; whole = λ v s. alone v (2 ∷ []) 3 (c-in-C v s) }) [] start
+c_follows_B = behind _ (Memᴰ.head refl) [] 2 (Nonterminal 3 ∷ []) (Memᴰ.tail (Memᴰ.head refl))
+    (2 ∷ []) (record { terminals = tt; whole = λ v s. alone v (2 ∷ []) 3 (c_in_C v s) }) [] start
 
 -- S has the body A D, and bbcc belongs to D: it may follow A, though it is longer than what two tokens of lookahead see
-bbcc-in-D : (v : Valuation) → Solves grammarM (1 ∷ 1 ∷ 2 ∷ 2 ∷ []) v → v 4 0 4 ≡ true
-unfolding solution rounds byRules derives contains any_of all_of anyBelow
-bbcc-in-D v s = solved grammarM 1 predictive-M (1 ∷ 1 ∷ 2 ∷ 2 ∷ []) v s 4 0 4 (omega arith) (omega arith) (omega arith)
+bbcc_in_D : (v : Valuation) → Solves grammar_m (1 ∷ 1 ∷ 2 ∷ 2 ∷ []) v → v 4 0 4 ≡ true
+unfolding solution rounds by_rules derives contains any_of all_of any_below
+bbcc_in_D v s = solved grammar_m 1 predictive_M (1 ∷ 1 ∷ 2 ∷ 2 ∷ []) v s 4 0 4 (omega arith) (omega arith) (omega arith)
 
-bbcc-follows-A : MayFollow grammarM 1 (1 ∷ 1 ∷ 2 ∷ 2 ∷ [])
+bbcc_follows_A : MayFollow grammar_m 1 (1 ∷ 1 ∷ 2 ∷ 2 ∷ [])
 unfolding all_of
-bbcc-follows-A = behind _ (Memᴰ.head refl) [] 1 (Nonterminal 4 ∷ []) (Memᴰ.head refl)
-    (1 ∷ 1 ∷ 2 ∷ 2 ∷ []) (record { terminals = tt; whole = λ v s. alone v (1 ∷ 1 ∷ 2 ∷ 2 ∷ []) 4 (bbcc-in-D v s) }) [] start
+bbcc_follows_A = behind _ (Memᴰ.head refl) [] 1 (Nonterminal 4 ∷ []) (Memᴰ.head refl)
+    (1 ∷ 1 ∷ 2 ∷ 2 ∷ []) (record { terminals = tt; whole = λ v s. alone v (1 ∷ 1 ∷ 2 ∷ 2 ∷ []) 4 (bbcc_in_D v s) }) [] start
 
 -- S of E has the body A b: b may follow A, and so B, which is all of a body of A
-pub b-follows-A : MayFollow grammarE 1 (1 ∷ [])
+pub b_follows_A : MayFollow grammar_e 1 (1 ∷ [])
 unfolding contains all_of
-b-follows-A = behind _ (Memᴰ.head refl) [] 1 (Terminal 1 ∷ []) (Memᴰ.head refl)
+b_follows_A = behind _ (Memᴰ.head refl) [] 1 (Terminal 1 ∷ []) (Memᴰ.head refl)
     (1 ∷ []) (record { terminals = tt; whole = λ v s. refl }) [] start
 
-b-follows-B : MayFollow grammarE 2 (1 ∷ [])
+b_follows_B : MayFollow grammar_e 2 (1 ∷ [])
 unfolding contains all_of
-b-follows-B = behind _ (Memᴰ.tail (Memᴰ.head refl)) [] 2 [] (Memᴰ.head refl)
-    [] (record { terminals = tt; whole = λ v s. refl }) (1 ∷ []) b-follows-A
+b_follows_B = behind _ (Memᴰ.tail (Memᴰ.head refl)) [] 2 [] (Memᴰ.head refl)
+    [] (record { terminals = tt; whole = λ v s. refl }) (1 ∷ []) b_follows_A

@@ -1,3 +1,3 @@
 pub mod Following
 pub mod Theorems
-pub mod contracts
+pub mod inner

@@ -1,8 +1,8 @@
 // The gaps and overlaps of a grammar's table, line by line, and the nonterminals that overrun, from what each rule claims.
 ghost use Rattle.std.specs.Prelude.{◌≡◌, ◌≤◌};
-ghost use Rattle.grammar.specs.Limits.{maxNonterminals, maxTerminals, maxRules};
+ghost use Rattle.grammar.specs.Limits.{max_nonterminals, max_terminals, max_rules};
 ghost use Rattle.text.specs.Writing.{Put, up_to};
-ghost use Rattle.gaps_text_promises.specs.contracts.Steps.{rowText, overrunLine, overrunsText, claimantAt, overrunsBy, overrunsIn, withinLimits, GapsPutBy};
+ghost use Rattle.gaps_text_promises.specs.inner.Steps.{row_text, overrun_line, overruns_text, claimant_at, overruns_by, overruns_in, within_limits, GapsPutBy};
 
 use claimants_text::put_entry;
 use families::{Finding, SETS};
@@ -32,9 +32,9 @@ fn put_row(
     sizes: Sizes,
     nonterminal: u8,
 ) -> usize
-    requires { (sizes.rules ≤ maxRules) × (sizes.terminals ≤ maxTerminals) }
+    requires { (sizes.rules ≤ max_rules) × (sizes.terminals ≤ max_terminals) }
     ensures { Put out.old at
-        (rowText sizes (claimantAt heads.now sets.now sizes.terminals) nonterminal) out.new result }
+        (row_text sizes (claimant_at heads.now sets.now sizes.terminals) nonterminal) out.new result }
 {
     let columns = sizes.terminals + 1;
     let mut next = at;
@@ -53,9 +53,9 @@ fn put_rows<'a>(
     sets: &'a [u64; RULES],
     sizes: Sizes,
 ) -> usize
-    requires { (sizes.nonterminals ≤ maxNonterminals) × (sizes.rules ≤ maxRules) × (sizes.terminals ≤ maxTerminals) }
+    requires { (sizes.nonterminals ≤ max_nonterminals) × (sizes.rules ≤ max_rules) × (sizes.terminals ≤ max_terminals) }
     ensures { Put out.old at
-        (up_to sizes.nonterminals (rowText sizes (claimantAt heads.now sets.now sizes.terminals))) out.new result }
+        (up_to sizes.nonterminals (row_text sizes (claimant_at heads.now sets.now sizes.terminals))) out.new result }
 {
     let nonterminals = sizes.nonterminals;
     let mut next = at;
@@ -69,7 +69,7 @@ fn put_rows<'a>(
 
 // The line of a nonterminal, unless the set that is reported of it is empty: it does not overrun.
 fn put_overrun(out: &mut [u8], at: usize, told: LookaheadSet, nonterminal: u32) -> usize
-    ensures { Put out.old at (overrunLine (overrunsBy told.bits) nonterminal) out.new result }
+    ensures { Put out.old at (overrun_line (overruns_by told.bits) nonterminal) out.new result }
 {
     let ends = told.is_empty();
     if ends {
@@ -80,8 +80,8 @@ fn put_overrun(out: &mut [u8], at: usize, told: LookaheadSet, nonterminal: u32) 
 }
 
 fn put_overruns(out: &mut [u8], at: usize, overruns: &[u64; SETS], nonterminals: u32) -> usize
-    requires { nonterminals ≤ maxNonterminals }
-    ensures { Put out.old at (overrunsText nonterminals (overrunsIn overruns.now)) out.new result }
+    requires { nonterminals ≤ max_nonterminals }
+    ensures { Put out.old at (overruns_text nonterminals (overruns_in overruns.now)) out.new result }
 {
     let mut next = at;
     let mut nonterminal = 0;
@@ -97,7 +97,7 @@ fn put_overruns(out: &mut [u8], at: usize, overruns: &[u64; SETS], nonterminals:
 
 // No more of each than a grammar may have.
 fn within_limits(sizes: Sizes) -> bool
-    ensures { result ≡ withinLimits sizes }
+    ensures { result ≡ within_limits sizes }
 {
     if NONTERMINALS < sizes.nonterminals {
         return false;

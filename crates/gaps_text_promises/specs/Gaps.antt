@@ -4,68 +4,68 @@ use Rattle.std.specs.Prelude.{◌≡◌, Bool, false, not, ◌↔◌, ℕ, ◌�
 use mathlib.Core.List.{List, [], ◌∷◌, ◌++◌, flat_map, Memᴰ}
 use Rattle.std.proofs.Math.Option.{Option, none, some}
 use Rattle.std.proofs.Math.ListN.{get_elem?}
-use Rattle.grammar.specs.Encoding.{grammarOf}
+use Rattle.grammar.specs.Encoding.{grammar_of}
 use Rattle.grammar.specs.Reading.{reading}
 use Rattle.grammar.specs.Syntax.{Rule, Grammar}
 use Rattle.lookahead.specs.declared.Lookahead.TheVariants.{One}
-use Rattle.base.specs.FiniteSets.{Distinct, keep, numbersBelow}
+use Rattle.base.specs.FiniteSets.{Distinct, keep, numbers_below}
 use Rattle.semantics.specs.Claims.{claims, overruns, column}
 use Rattle.semantics.specs.Families.{Claims, Overrun}
 use Rattle.semantics.specs.FirstFollow.{Entry, entries, First, Follow}
 use Rattle.families.specs.declared.Finding.{Finding}
 use Rattle.families.specs.declared.Finding.TheVariants.{Passed, Refused}
-use Rattle.families.specs.Analysis.{setsFault, findingOf}
+use Rattle.families.specs.Analysis.{sets_fault, finding_of}
 use Rattle.table_promises.specs.Analysis.{fault}
 use Rattle.text.specs.Ascii.{ascii}
 use Rattle.text.specs.Decimal.{decimal, labelled}
-use Rattle.refusal_text.specs.Refusal.{refusalText}
+use Rattle.refusal_text.specs.Refusal.{refusal_text}
 
-abbrev pub onRule : Option Rule → (Rule → Bool) → Bool
-onRule none p = false
-onRule (some r) p = p r
+abbrev pub on_rule : Option Rule → (Rule → Bool) → Bool
+on_rule none p = false
+on_rule (some r) p = p r
 
 -- rule q claims an entry
-unfoldable pub claimsBy : Grammar → Entry → ℕ → Bool
-claimsBy G e q = onRule (get_elem? G.rules q) (claims G 1 e)
+unfoldable pub claims_by : Grammar → Entry → ℕ → Bool
+claims_by G e q = on_rule (get_elem? G.rules q) (claims G 1 e)
 
 -- the numbers of the rules that claim it, in order
 unfoldable pub claimants : Grammar → Entry → List ℕ
-claimants G e = keep (claimsBy G e) (numbersBelow (length G.rules))
+claimants G e = keep (claims_by G e) (numbers_below (length G.rules))
 
 -- numbers behind spaces, or a dash where there are none
-abbrev pub rulesText : List ℕ → List ℕ
-rulesText [] = ascii " -"
-rulesText (q ∷ qs) = flat_map (labelled " ") (q ∷ qs)
+abbrev pub rules_text : List ℕ → List ℕ
+rules_text [] = ascii " -"
+rules_text (q ∷ qs) = flat_map (labelled " ") (q ∷ qs)
 
 -- the line of an entry: nonterminal, column, and the rules that claim it
-unfoldable pub gapText : Grammar → Entry → List ℕ
-gapText G e = decimal e.0 ++ labelled " " (column G.terminals e.1) ++ rulesText (claimants G e) ++ ascii "\n"
+unfoldable pub gap_text : Grammar → Entry → List ℕ
+gap_text G e = decimal e.0 ++ labelled " " (column G.terminals e.1) ++ rules_text (claimants G e) ++ ascii "\n"
 
 -- the line of a nonterminal that overruns
-unfoldable pub overrunText : ℕ → List ℕ
-overrunText A = decimal A ++ ascii "\n"
+unfoldable pub overrun_text : ℕ → List ℕ
+overrun_text A = decimal A ++ ascii "\n"
 
-abbrev pub isListed : List ℕ → Bool
-isListed qs = not (eqb (length qs) 1)
+abbrev pub is_listed : List ℕ → Bool
+is_listed qs = not (eqb (length qs) 1)
 
 -- the entries that not just one rule claims, by nonterminal, then column, the end's column last
-unfoldable pub listedEntries : Grammar → List Entry
-listedEntries G = keep (λ e. isListed (claimants G e)) (entries G 1)
+unfoldable pub listed_entries : Grammar → List Entry
+listed_entries G = keep (λ e. is_listed (claimants G e)) (entries G 1)
 
 -- the nonterminals that overrun, the lowest first
-unfoldable pub listedOverruns : Grammar → List ℕ
-listedOverruns G = keep (overruns G 1) (numbersBelow G.nonterminals)
+unfoldable pub listed_overruns : Grammar → List ℕ
+listed_overruns G = keep (overruns G 1) (numbers_below G.nonterminals)
 
-unfoldable pub gapsLines : Grammar → List ℕ
-gapsLines G = flat_map (gapText G) (listedEntries G) ++ flat_map overrunText (listedOverruns G)
+unfoldable pub gaps_lines : Grammar → List ℕ
+gaps_lines G = flat_map (gap_text G) (listed_entries G) ++ flat_map overrun_text (listed_overruns G)
 
-abbrev pub foundText : Finding → Grammar → List ℕ
-foundText (Passed z) G = gapsLines G
-foundText (Refused e) G = refusalText e
+abbrev pub found_text : Finding → Grammar → List ℕ
+found_text (Passed z) G = gaps_lines G
+found_text (Refused e) G = refusal_text e
 
 -- what is printed of an encoded grammar; only the errors 3 to 8 and 13 are refusals
-unfoldable pub gapsText : List ℕ → List ℕ
-gapsText words = foundText (findingOf (setsFault One words) (reading words)) (grammarOf words)
+unfoldable pub gaps_text : List ℕ → List ℕ
+gaps_text words = found_text (finding_of (sets_fault One words) (reading words)) (grammar_of words)
 
 -- no entry has two rules, and no nonterminal overruns
 pub record NoneShown (G : Grammar) : Type 0 where
@@ -74,11 +74,11 @@ pub record NoneShown (G : Grammar) : Type 0 where
 
 -- what the lines of a grammar tell: each entry and each nonterminal is listed once; which rules claim an entry and which nonterminals
 -- overrun, by the FIRST and FOLLOW sets; and neither an overlap nor such a nonterminal is shown exactly when 9 would not be given
--- need not be believed: claimsBy (claimed); overruns (overrun)
+-- need not be believed: claims_by (claimed); overruns (overrun)
 pub record LinesTell (words : List ℕ) : Type 0 where
-  pub entries-once : Distinct (listedEntries (grammarOf words))
-  pub overruns-once : Distinct (listedOverruns (grammarOf words))
-  pub claimed : (e : Entry) (q : ℕ) → T (claimsBy (grammarOf words) e q)
-      ↔ Claims (grammarOf words) 1 (First (grammarOf words) 1) (Follow (grammarOf words) 1) q e.0 e.1
-  pub overrun : (A : ℕ) → T (overruns (grammarOf words) 1 A) ↔ Overrun (grammarOf words) (Follow (grammarOf words) 1) A
-  pub nine : setsFault One words ≡ none → NoneShown (grammarOf words) ↔ (fault One words ≡ none)
+  pub entries_once : Distinct (listed_entries (grammar_of words))
+  pub overruns_once : Distinct (listed_overruns (grammar_of words))
+  pub claimed : (e : Entry) (q : ℕ) → T (claims_by (grammar_of words) e q)
+      ↔ Claims (grammar_of words) 1 (First (grammar_of words) 1) (Follow (grammar_of words) 1) q e.0 e.1
+  pub overrun : (A : ℕ) → T (overruns (grammar_of words) 1 A) ↔ Overrun (grammar_of words) (Follow (grammar_of words) 1) A
+  pub nine : sets_fault One words ≡ none → NoneShown (grammar_of words) ↔ (fault One words ≡ none)

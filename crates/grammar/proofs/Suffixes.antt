@@ -11,8 +11,8 @@ use Rattle.grammar.specs.declared.reading.Progress.{Progress}
 use Rattle.grammar.specs.declared.reading.Reading.TheVariants.{Read}
 use Rattle.grammar.specs.Encoding.{declared_by}
 use Rattle.grammar.specs.Reading.{fresh, stepped, scan, reading}
-use Rattle.grammar.proofs.Scanning.{scan-here}
-use Rattle.grammar.proofs.WellFormed.{Passed, step-passed, onward}
+use Rattle.grammar.proofs.Scanning.{scan_here}
+use Rattle.grammar.proofs.WellFormed.{Passed, step_passed, onward}
 use Rattle.grammar.proofs.EachIndex.{read_opened}
 
 -- the progress behind the word at an index, and the reading from there
@@ -21,11 +21,11 @@ pub record Next (words : List ℕ) (at : ℕ) (p : Progress) (z : Sizes) : Type 
   pub passed : Passed (decoded (get_or words at 0)) p progress
   pub reads : scan progress (at + 1) (drop (at + 1) words) ≡ Read z
 
-pub scan-next : (words : List ℕ) (at : ℕ) (p : Progress) (z : Sizes) → at < length words → scan p at (drop at words) ≡ Read z → Next words at p z
-scan-next words at p z h e =
+pub scan_next : (words : List ℕ) (at : ℕ) (p : Progress) (z : Sizes) → at < length words → scan p at (drop at words) ≡ Read z → Next words at p z
+scan_next words at p z h e =
     let w = decoded (get_or words at 0) in
-    let g = onward (stepped w p at) (λ q. scan q (suc at) (drop (suc at) words)) z (sym (scan-here words p at h) ∙ e) in
-    record { progress = g.0; passed = step-passed w p g.0 at g.1; reads = rw (add-one at) g.2 }
+    let g = onward (stepped w p at) (λ q. scan q (suc at) (drop (suc at) words)) z (sym (scan_here words p at h) ∙ e) in
+    record { progress = g.0; passed = step_passed w p g.0 at g.1; reads = rw (add-one at) g.2 }
 
 -- a reading that has reached an index
 pub record Reached (words : List ℕ) (at : ℕ) (z : Sizes) : Type 0 where
@@ -33,10 +33,10 @@ pub record Reached (words : List ℕ) (at : ℕ) (z : Sizes) : Type 0 where
   pub reads : scan progress at (drop at words) ≡ Read z
 
 -- a reading without a fault reaches every index behind the heading
-pub read-reaches : (words : List ℕ) (z : Sizes) → reading words ≡ Read z → (i : ℕ) → suc i ≤ length words → Reached words (suc i) z
-read-reaches [] z e i h = absurd (omega arith)
-read-reaches (w ∷ ws) z e zero h = let o = read_opened w ws z e in record { progress = fresh (declared_by (decoded w)); reads = o.rest }
-read-reaches (w ∷ ws) z e (suc i) h =
-    let r = read-reaches (w ∷ ws) z e i (omega arith) in
-    let n = scan-next (w ∷ ws) (suc i) r.progress z (omega arith) r.reads in
+pub read_reaches : (words : List ℕ) (z : Sizes) → reading words ≡ Read z → (i : ℕ) → suc i ≤ length words → Reached words (suc i) z
+read_reaches [] z e i h = absurd (omega arith)
+read_reaches (w ∷ ws) z e zero h = let o = read_opened w ws z e in record { progress = fresh (declared_by (decoded w)); reads = o.rest }
+read_reaches (w ∷ ws) z e (suc i) h =
+    let r = read_reaches (w ∷ ws) z e i (omega arith) in
+    let n = scan_next (w ∷ ws) (suc i) r.progress z (omega arith) r.reads in
     record { progress = n.progress; reads = rw (add-one (suc i)) at n.reads }

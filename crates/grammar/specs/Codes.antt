@@ -2,13 +2,13 @@
 use Rattle.std.specs.Prelude.{ℕ}
 
 -- an entry of the table that no rule claims (document 01: none)
-abbrev pub noEntry : ℕ
-noEntry = 4294967295
+abbrev pub no_entry : ℕ
+no_entry = 4294967295
 
 -- an entry of the memo table: the call failed
-abbrev pub failedCode : ℕ
-failedCode = 65534
+abbrev pub failed_code : ℕ
+failed_code = 65534
 
 -- the call was not made
-abbrev pub uncalledCode : ℕ
-uncalledCode = 65535
+abbrev pub uncalled_code : ℕ
+uncalled_code = 65535

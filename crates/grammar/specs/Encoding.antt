@@ -16,12 +16,12 @@ pub record Parsed : Type 0 where
 abbrev pub parsed : Body → List Body → List Body → List Rule → Parsed
 parsed b ps ns rs = record { body = b; positives = ps; negatives = ns; rules = rs }
 
-abbrev pub ruleOf : ℕ → Parsed → Rule
-ruleOf A p = record { head = A; positives = p.positives; negatives = p.negatives }
+abbrev pub rule_of : ℕ → Parsed → Rule
+rule_of A p = record { head = A; positives = p.positives; negatives = p.negatives }
 
 -- a symbol goes in front of the body; the begin of a conjunct closes the body, and that of a rule closes the rule
 unfoldable pub on_word : Word → Parsed → Parsed
-on_word (RuleWord A) p = parsed [] [] [] (ruleOf A p ∷ p.rules)
+on_word (RuleWord A) p = parsed [] [] [] (rule_of A p ∷ p.rules)
 on_word Positive p = parsed [] (p.body ∷ p.positives) p.negatives p.rules
 on_word Negative p = parsed [] p.positives (p.body ∷ p.negatives) p.rules
 on_word (Symbol X) p = parsed (X ∷ p.body) p.positives p.negatives p.rules
@@ -47,8 +47,8 @@ declared_by End = sizes 0 0 0
 declared_by Invalid = sizes 0 0 0
 
 -- the grammar that a row of words encodes (document 01: a card)
-unfoldable pub grammarOf : List ℕ → Grammar
-grammarOf [] = record { nonterminals = 0; terminals = 0; rules = [] }
-grammarOf (w ∷ ws) =
+unfoldable pub grammar_of : List ℕ → Grammar
+grammar_of [] = record { nonterminals = 0; terminals = 0; rules = [] }
+grammar_of (w ∷ ws) =
     let z = declared_by (decoded w) in
     record { nonterminals = z.nonterminals; terminals = z.terminals; rules = (parse ws).rules }

@@ -3,5 +3,5 @@ pub mod Codes
 pub mod Syntax
 pub mod Encoding
 pub mod Reading
-pub mod contracts
+pub mod inner
 pub mod examples

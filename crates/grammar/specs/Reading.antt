@@ -15,7 +15,7 @@ use Rattle.grammar.specs.declared.reading.Step.{Step}
 use Rattle.grammar.specs.declared.reading.Step.TheVariants.{Go, Stop}
 use Rattle.grammar.specs.declared.reading.Reading.{Reading}
 use Rattle.grammar.specs.declared.reading.Reading.TheVariants.{Read, Faulty}
-use Rattle.grammar.specs.Limits.{maxWords, maxNonterminals, maxTerminals, maxRules}
+use Rattle.grammar.specs.Limits.{max_words, max_nonterminals, max_terminals, max_rules}
 use Rattle.grammar.specs.Encoding.{declared_by}
 
 abbrev pub row : Bool → Bool → Bool → Bool → Bool → State → Bool
@@ -36,59 +36,59 @@ allows (Heading n t) s = false
 allows Invalid s = false
 
 -- where the next word stands
-abbrev pub stateAfter : Word → State → State
-stateAfter (Rule A) s = Opened
-stateAfter Positive s = InPositive
-stateAfter Negative s = InNegative
-stateAfter (Symbol X) s = s
-stateAfter End s = Closed
-stateAfter (Heading n t) s = s
-stateAfter Invalid s = s
+abbrev pub state_after : Word → State → State
+state_after (Rule A) s = Opened
+state_after Positive s = InPositive
+state_after Negative s = InNegative
+state_after (Symbol X) s = s
+state_after End s = Closed
+state_after (Heading n t) s = s
+state_after Invalid s = s
 
-abbrev pub symbolInRange : symbol.Symbol → Sizes → Bool
-symbolInRange (Terminal a) z = ltb a z.terminals
-symbolInRange (Nonterminal A) z = ltb A z.nonterminals
+abbrev pub symbol_in_range : symbol.Symbol → Sizes → Bool
+symbol_in_range (Terminal a) z = ltb a z.terminals
+symbol_in_range (Nonterminal A) z = ltb A z.nonterminals
 
 abbrev pub in_range : Word → Sizes → Bool
 in_range (Rule A) z = ltb A z.nonterminals
 in_range Positive z = true
 in_range Negative z = true
-in_range (Symbol X) z = symbolInRange X z
+in_range (Symbol X) z = symbol_in_range X z
 in_range End z = true
 in_range (Heading n t) z = true
 in_range Invalid z = true
 
-abbrev pub beginsRule : Word → Bool
-beginsRule (Rule A) = true
-beginsRule Positive = false
-beginsRule Negative = false
-beginsRule (Symbol X) = false
-beginsRule End = false
-beginsRule (Heading n t) = false
-beginsRule Invalid = false
+abbrev pub begins_rule : Word → Bool
+begins_rule (Rule A) = true
+begins_rule Positive = false
+begins_rule Negative = false
+begins_rule (Symbol X) = false
+begins_rule End = false
+begins_rule (Heading n t) = false
+begins_rule Invalid = false
 
 abbrev pub progress : State → Sizes → Progress
 progress s z = record { state = s; sizes = z }
 
-abbrev pub oneMore : Sizes → Sizes
-oneMore z = record { nonterminals = z.nonterminals; terminals = z.terminals; rules = z.rules + 1 }
+abbrev pub one_more : Sizes → Sizes
+one_more z = record { nonterminals = z.nonterminals; terminals = z.terminals; rules = z.rules + 1 }
 
 -- one rule more, where there is room for it
 unfoldable pub counted : State → Sizes → ℕ → Step
-counted s z at = choose (leb maxRules z.rules) (Stop (TooManyRules at)) (Go (progress s (oneMore z)))
+counted s z at = choose (leb max_rules z.rules) (Stop (TooManyRules at)) (Go (progress s (one_more z)))
 
 -- the word at an index: the first of three faults, or the progress behind it
 unfoldable pub stepped : Word → Progress → ℕ → Step
 stepped w p at =
     choose (allows w p.state)
     (choose (in_range w p.sizes)
-    (choose (beginsRule w) (counted (stateAfter w p.state) p.sizes at) (Go (progress (stateAfter w p.state) p.sizes)))
+    (choose (begins_rule w) (counted (state_after w p.state) p.sizes at) (Go (progress (state_after w p.state) p.sizes)))
     (Stop (OutOfRange at)))
     (Stop (UnexpectedWord at))
 
-unfoldable pub onStep : Step → (Progress → Reading) → Reading
-onStep (Go p) f = f p
-onStep (Stop e) f = Faulty e
+unfoldable pub on_step : Step → (Progress → Reading) → Reading
+on_step (Go p) f = f p
+on_step (Stop e) f = Faulty e
 
 -- behind the last word: the end must have been there
 unfoldable pub finished : Progress → ℕ → Reading
@@ -97,21 +97,21 @@ finished p at = choose (row false false false false true p.state) (Read p.sizes)
 -- the words from an index on
 unfoldable pub scan : Progress → ℕ → List ℕ → Reading
 scan p at [] = finished p at
-scan p at (w ∷ ws) = onStep (stepped (decoded w) p at) (λ q. scan q (suc at) ws)
+scan p at (w ∷ ws) = on_step (stepped (decoded w) p at) (λ q. scan q (suc at) ws)
 
 abbrev pub fresh : Sizes → Progress
 fresh z = progress Before z
 
-unfoldable pub isWithin : ℕ → ℕ → Bool
-isWithin n limit = ltb 0 n && leb n limit
+unfoldable pub is_within : ℕ → ℕ → Bool
+is_within n limit = ltb 0 n && leb n limit
 
 -- by what the first word declares, and the words behind it
 unfoldable pub headed : Sizes → List ℕ → Reading
-headed z ws = choose (isWithin z.nonterminals maxNonterminals && isWithin z.terminals maxTerminals) (scan (fresh z) 1 ws) (Faulty HeadingFault)
+headed z ws = choose (is_within z.nonterminals max_nonterminals && is_within z.terminals max_terminals) (scan (fresh z) 1 ws) (Faulty HeadingFault)
 
 unfoldable pub opened : List ℕ → Reading
 opened [] = Faulty HeadingFault
 opened (w ∷ ws) = headed (declared_by (decoded w)) ws
 
 unfoldable pub reading : List ℕ → Reading
-reading words = choose (ltb maxWords (length words)) (Faulty Length) (opened words)
+reading words = choose (ltb max_words (length words)) (Faulty Length) (opened words)

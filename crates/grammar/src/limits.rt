@@ -1,6 +1,6 @@
 // The limits of documents 01 and 02, each once.
 ghost use Rattle.std.specs.Prelude.{◌≡◌};
-ghost use Rattle.grammar.specs.contracts.Limits.{limited};
+ghost use Rattle.grammar.specs.inner.Limits.{limited};
 
 pub const WORDS: usize = 2048;
 

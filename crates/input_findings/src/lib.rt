@@ -2,8 +2,8 @@
 ghost use Rattle.std.specs.Prelude.{◌≡◌};
 ghost use Rattle.answer.specs.declared.Error.TheVariants.{MemoTooShort, SpansTooShort};
 ghost use Rattle.event.specs.Events.{input_of};
-ghost use Rattle.grammar.specs.Limits.{maxTokens, maxMemoEntries, maxTabularTokens, maxSpanWords};
-ghost use Rattle.promises.specs.contracts.Inputs.{withInputTo, withRoom};
+ghost use Rattle.grammar.specs.Limits.{max_tokens, max_memo_entries, max_tabular_tokens, max_span_words};
+ghost use Rattle.promises.specs.inner.Inputs.{with_input_to, with_room};
 
 use answer::Error;
 use event::{Unknown, first_unknown};
@@ -12,7 +12,7 @@ use grammar::limits::{MEMO_ENTRIES, SPAN_WORDS, TABULAR_TOKENS, TOKENS};
 
 // What is found of a grammar and then of an input of at most so many tokens: its length, and its tokens.
 fn with_input(finding: Finding, events: &[u8], most: usize) -> Finding
-    ensures { result ≡ withInputTo most finding (input_of events.now) }
+    ensures { result ≡ with_input_to most finding (input_of events.now) }
 {
     match finding {
         Finding::Refused(_) => finding,
@@ -31,7 +31,7 @@ fn with_input(finding: Finding, events: &[u8], most: usize) -> Finding
 
 // For the descent, with a lent memo table of so many entries.
 pub fn with_memo(finding: Finding, events: &[u8], memo: usize) -> Finding
-    ensures { result ≡ withRoom memo maxMemoEntries MemoTooShort (withInputTo maxTokens finding (input_of events.now)) }
+    ensures { result ≡ with_room memo max_memo_entries MemoTooShort (with_input_to max_tokens finding (input_of events.now)) }
 {
     if memo < MEMO_ENTRIES {
         return Finding::Refused(Error::MemoTooShort);
@@ -41,7 +41,7 @@ pub fn with_memo(finding: Finding, events: &[u8], memo: usize) -> Finding
 
 // For tabulation, with so many lent words for the spans.
 pub fn with_spans(finding: Finding, events: &[u8], spans: usize) -> Finding
-    ensures { result ≡ withRoom spans maxSpanWords SpansTooShort (withInputTo maxTabularTokens finding (input_of events.now)) }
+    ensures { result ≡ with_room spans max_span_words SpansTooShort (with_input_to max_tabular_tokens finding (input_of events.now)) }
 {
     if spans < SPAN_WORDS {
         return Finding::Refused(Error::SpansTooShort);

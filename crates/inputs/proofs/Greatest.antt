@@ -9,9 +9,9 @@ use lib.ListN.{length, get_or}
 use borrow.Author.Tests.{ltb-true, ltb-false}
 use Rattle.base.specs.Choice.{choose}
 use Rattle.inputs.specs.Inputs.{inputs}
-use Rattle.inputs.specs.contracts.Inputs.{input_at}
-use Rattle.inputs.specs.Costliest.{costliestFrom, firstCostliest, costliest, CostliestOf}
-use Rattle.inputs.proofs.Numbers.{inputs-count, some-input, inputs-at, numberFrom, at_long, at-over, number_at, at-number, before-lower}
+use Rattle.inputs.specs.inner.Inputs.{input_at}
+use Rattle.inputs.specs.Costliest.{costliest_from, first_costliest, costliest, CostliestOf}
+use Rattle.inputs.proofs.Numbers.{inputs_count, some_input, inputs_at, number_from, at_long, at_over, number_at, at_number, before_lower}
 
 module _ (cost : List ℕ → ℕ) where
   record FirstMost (l : List (List ℕ)) (r : List ℕ) : Type 0 where
@@ -40,8 +40,8 @@ module _ (cost : List ℕ → ℕ) where
       less (suc i) k = f.less i (omega arith)
 
   -- one more in the second place that does not cost more than the first
-  second-most : (x y : List ℕ) (l : List (List ℕ)) (r : List ℕ) → cost y ≤ cost x → FirstMost (x ∷ l) r → FirstMost (x ∷ y ∷ l) r
-  second-most x y l r h f = go f.at f.low f.here f.less
+  second_most : (x y : List ℕ) (l : List (List ℕ)) (r : List ℕ) → cost y ≤ cost x → FirstMost (x ∷ l) r → FirstMost (x ∷ y ∷ l) r
+  second_most x y l r h f = go f.at f.low f.here f.less
     where
       most : (i : ℕ) → i < suc (suc (length l)) → cost (get_or (x ∷ y ∷ l) i []) ≤ cost r
       most zero k = f.most 0 (omega arith)
@@ -57,45 +57,45 @@ module _ (cost : List ℕ → ℕ) where
       go zero k e g = record { at = 0; low = omega arith; here = e; most = most; less = λ i n. absurd (omega arith) }
       go (suc p) k e g = record { at = suc (suc p); low = omega arith; here = e; most = most; less = less p g }
 
-  first-most : (x : List ℕ) (l : List (List ℕ)) → FirstMost (x ∷ l) (costliestFrom cost x l)
-  unfolding costliestFrom
-  first-most x [] = record { at = 0; low = omega arith; here = refl; most = only; less = λ i n. absurd (omega arith) }
+  first_most : (x : List ℕ) (l : List (List ℕ)) → FirstMost (x ∷ l) (costliest_from cost x l)
+  unfolding costliest_from
+  first_most x [] = record { at = 0; low = omega arith; here = refl; most = only; less = λ i n. absurd (omega arith) }
     where
       only : (i : ℕ) → i < 1 → cost (get_or (x ∷ []) i []) ≤ cost x
       only zero k = omega arith
       only (suc i) k = absurd (omega arith)
-  first-most x (y ∷ l) = go (ltb (cost x) (cost y)) refl (λ z. first-most z l)
+  first_most x (y ∷ l) = go (ltb (cost x) (cost y)) refl (λ z. first_most z l)
     where
-      go : (b : Bool) → ltb (cost x) (cost y) ≡ b → ((z : List ℕ) → FirstMost (z ∷ l) (costliestFrom cost z l))
-          → FirstMost (x ∷ y ∷ l) (costliestFrom cost (choose b y x) l)
-      go true e f = front_less x y l (costliestFrom cost y l) (ltb-true (cost x) (cost y) e) (f y)
-      go false e f = second-most x y l (costliestFrom cost x l) (ltb-false (cost x) (cost y) e) (f x)
+      go : (b : Bool) → ltb (cost x) (cost y) ≡ b → ((z : List ℕ) → FirstMost (z ∷ l) (costliest_from cost z l))
+          → FirstMost (x ∷ y ∷ l) (costliest_from cost (choose b y x) l)
+      go true e f = front_less x y l (costliest_from cost y l) (ltb-true (cost x) (cost y) e) (f y)
+      go false e f = second_most x y l (costliest_from cost x l) (ltb-false (cost x) (cost y) e) (f x)
 
-  module _ (n : ℕ) (some-terminal : 0 < n) (k : ℕ) where
-    costliest-first : FirstMost (inputs n k) (costliest cost n k)
+  module _ (n : ℕ) (some_terminal : 0 < n) (k : ℕ) where
+    costliest_first : FirstMost (inputs n k) (costliest cost n k)
     unfolding costliest
-    costliest-first = go (inputs n k) (omega (arith, inputs-count n k, some-input n some-terminal k))
+    costliest_first = go (inputs n k) (omega (arith, inputs_count n k, some_input n some_terminal k))
       where
-        go : (l : List (List ℕ)) → 0 < length l → FirstMost l (firstCostliest cost l)
+        go : (l : List (List ℕ)) → 0 < length l → FirstMost l (first_costliest cost l)
         go [] h = absurd (omega arith)
-        go (x ∷ l) h = first-most x l
+        go (x ∷ l) h = first_most x l
 
-    pub costliest-of : CostliestOf cost n k (costliest cost n k)
-    costliest-of =
-        let f = costliest-first in
-        let c = inputs-count n k in
+    pub costliest_of : CostliestOf cost n k (costliest cost n k)
+    costliest_of =
+        let f = costliest_first in
+        let c = inputs_count n k in
         let low : f.at < n ^ k = omega (arith, f.low) in
-        let w : input_at n k f.at ≡ costliest cost n k = sym (inputs-at n some-terminal k f.at low) ∙ f.here in
+        let w : input_at n k f.at ≡ costliest cost n k = sym (inputs_at n some_terminal k f.at low) ∙ f.here in
         let long : length (costliest cost n k) ≡ k = ap length (sym w) ∙ at_long n k f.at in
-        let own : numberFrom n 0 (costliest cost n k) ≡ f.at = ap (numberFrom n 0) (sym w) ∙ number_at n some-terminal k f.at low in
+        let own : number_from n 0 (costliest cost n k) ≡ f.at = ap (number_from n 0) (sym w) ∙ number_at n some_terminal k f.at low in
         record {
           long = long;
-          tokens = rw w at (at-over n some-terminal k f.at);
+          tokens = rw w at (at_over n some_terminal k f.at);
           greatest = λ x e h.
-              let a = rw e at (at-number n some-terminal x h) in
-              rw (inputs-at n some-terminal k (numberFrom n 0 x) a.0 ∙ a.1) at (f.most (numberFrom n 0 x) (omega (arith, a.0)));
+              let a = rw e at (at_number n some_terminal x h) in
+              rw (inputs_at n some_terminal k (number_from n 0 x) a.0 ∙ a.1) at (f.most (number_from n 0 x) (omega (arith, a.0)));
           first = λ x e h b.
-              let a = rw e at (at-number n some-terminal x h) in
-              let l = before-lower n some-terminal 0 x (costliest cost n k) (e ∙ sym long) h b in
-              rw (inputs-at n some-terminal k (numberFrom n 0 x) a.0 ∙ a.1) at (f.less (numberFrom n 0 x) (omega (arith, own)));
+              let a = rw e at (at_number n some_terminal x h) in
+              let l = before_lower n some_terminal 0 x (costliest cost n k) (e ∙ sym long) h b in
+              rw (inputs_at n some_terminal k (number_from n 0 x) a.0 ∙ a.1) at (f.less (number_from n 0 x) (omega (arith, own)));
         }

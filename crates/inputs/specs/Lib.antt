@@ -1,3 +1,3 @@
 pub mod Inputs
 pub mod Costliest
-pub mod contracts
+pub mod inner

@@ -1,13 +1,13 @@
 // All inputs of one length in letter order: how many there are, the one of a number, and a search through them.
 ghost use Rattle.std.specs.Prelude.{◌≡◌, ◌+◌, length};
-ghost use Rattle.inputs.specs.contracts.Inputs.{input_at, inputCount, noTrials, triedNext};
+ghost use Rattle.inputs.specs.inner.Inputs.{input_at, input_count, no_trials, tried_next};
 
 // Among how many inputs a search goes.
 pub const INPUTS: usize = 4096;
 
 // How many inputs of a length there are, or one more than are searched where there are more.
 pub fn count_inputs(terminals: u32, tokens: usize) -> usize
-    ensures { result ≡ inputCount terminals tokens }
+    ensures { result ≡ input_count terminals tokens }
 {
     let mut inputs = 1;
     let mut at = 0;
@@ -44,7 +44,7 @@ pub struct Trials {
 }
 
 pub fn no_trials() -> Trials
-    ensures { result ≡ noTrials }
+    ensures { result ≡ no_trials }
 {
     Trials {
         next: 0,
@@ -56,7 +56,7 @@ pub fn no_trials() -> Trials
 // When the next has been tried and costs so many calls: of two that cost as many the first is kept. Its number is below that of the inputs that are
 // searched, so the remainder is the number itself; with it the sum is one for every number.
 pub fn tried(trials: Trials, calls: usize) -> Trials
-    ensures { result ≡ triedNext trials calls }
+    ensures { result ≡ tried_next trials calls }
 {
     let next = trials.next % INPUTS + 1;
     if trials.calls < calls {

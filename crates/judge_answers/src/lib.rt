@@ -1,7 +1,7 @@
 // What judging answers: why it is refused, or the verdict by the memo table that the descent leaves.
 ghost use Rattle.std.specs.Prelude.{◌≡◌, get_or};
-ghost use Rattle.grammar.specs.Codes.{uncalledCode};
-ghost use Rattle.judge_answers.specs.contracts.Answers.{answer_of};
+ghost use Rattle.grammar.specs.Codes.{uncalled_code};
+ghost use Rattle.judge_answers.specs.inner.Answers.{answer_of};
 
 use answer::Answer;
 use descent_arrays::fitting;
@@ -13,7 +13,7 @@ use memo_table::verdict;
 
 // The entry of the start's call at the input's begin.
 fn start_entry(memo: &[u16]) -> u16
-    ensures { result ≡ get_or memo.now 0 uncalledCode }
+    ensures { result ≡ get_or memo.now 0 uncalled_code }
 {
     if 0 < memo.len() { memo[0] } else { UNCALLED }
 }

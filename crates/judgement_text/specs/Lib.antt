@@ -1,3 +1,3 @@
 pub mod Judgement
 pub mod Room
-pub mod contracts
+pub mod inner

@@ -3,7 +3,7 @@ ghost use Rattle.std.specs.Prelude.{◌++◌};
 ghost use Rattle.text.specs.Ascii.{ascii};
 ghost use Rattle.text.specs.Decimal.{decimal, labelled};
 ghost use Rattle.text.specs.Writing.{Put};
-ghost use Rattle.judgement_text.specs.Judgement.{judgementText};
+ghost use Rattle.judgement_text.specs.Judgement.{judgement_text};
 
 use answer::{Answer, Calls};
 use calls_text::put_calls;
@@ -35,7 +35,7 @@ pub fn put_judgement(
     tokens: u16,
     memo: &[u16],
 ) -> usize
-    ensures { Put out.old 0 (judgementText answer nonterminals tokens memo.now) out.new result }
+    ensures { Put out.old 0 (judgement_text answer nonterminals tokens memo.now) out.new result }
 {
     match answer {
         Answer::Refused(error) => put_refusal(out, 0, error),

@@ -1,13 +1,13 @@
 // The sizes that a judgement is put with.
 ghost use Rattle.std.specs.Prelude.{◌≡◌};
-ghost use Rattle.judgement_text.specs.contracts.Sizes.{nonterminalsOf, tokenCount};
+ghost use Rattle.judgement_text.specs.inner.Sizes.{nonterminals_of, token_count};
 
 use families::Finding;
 use grammar::limits::TOKENS;
 
 // How many nonterminals a grammar has that is found to pass.
 pub fn nonterminals(finding: Finding) -> u32
-    ensures { result ≡ nonterminalsOf finding }
+    ensures { result ≡ nonterminals_of finding }
 {
     match finding {
         Finding::Passed(sizes) => sizes.nonterminals,
@@ -17,7 +17,7 @@ pub fn nonterminals(finding: Finding) -> u32
 
 // How many tokens an input has that is not too long: as many as there are events.
 pub fn tokens(events: &[u8]) -> u16
-    ensures { result ≡ tokenCount events.now }
+    ensures { result ≡ token_count events.now }
 {
     if events.len() <= TOKENS {
         events.len() as u16

@@ -2,14 +2,14 @@
 use Rattle.std.specs.Prelude.{List, ℕ}
 use Rattle.kept_steps.specs.Histories.{Kept}
 use Rattle.kept_marks.specs.declared.Progress.{Progress}
-use Rattle.kept_marks.specs.Stored.{heldBy, progressOf, storedEvents}
+use Rattle.kept_marks.specs.Stored.{held_by, progress_of, stored_events}
 use Rattle.kept_input.specs.declared.KeptInput.{KeptInput}
 
-abbrev pub keptInput : List ℕ → Progress → KeptInput
-keptInput events p = record { events = events; progress = p }
+abbrev pub kept_input : List ℕ → Progress → KeptInput
+kept_input events p = record { events = events; progress = p }
 
-abbrev pub heldInput : KeptInput → Kept
-heldInput k = heldBy k.events k.progress
+abbrev pub held_input : KeptInput → Kept
+held_input k = held_by k.events k.progress
 
-abbrev pub storedInput : List ℕ → Kept → KeptInput
-storedInput old s = keptInput (storedEvents old s) (progressOf s)
+abbrev pub stored_input : List ℕ → Kept → KeptInput
+stored_input old s = kept_input (stored_events old s) (progress_of s)

@@ -1,4 +1,4 @@
 pub mod Held
 pub mod Properties
 pub mod Runs
-pub mod contracts
+pub mod inner

@@ -1,22 +1,22 @@
 -- What a kept input promises, on one page: of each step and of a judgement, for any value that is passed in.
 use Rattle.std.specs.Prelude.{◌≡◌, List, ℕ, ◌≤◌, length, replicate}
 use Rattle.answer.specs.declared.Answer.{Answer}
-use Rattle.grammar.specs.Limits.{maxTokens}
+use Rattle.grammar.specs.Limits.{max_tokens}
 use Rattle.event.specs.Events.{input_of}
 use Rattle.lookahead.specs.declared.Lookahead.{Lookahead}
 use Rattle.recognizer_promises.specs.Properties.{Judges}
-use Rattle.kept_steps.specs.Histories.{emptyInput, Step, Add, ran}
+use Rattle.kept_steps.specs.Histories.{empty_input, Step, Add, ran}
 use Rattle.kept_marks.specs.declared.Progress.{Progress}
 use Rattle.kept_marks.specs.declared.Moved.{Moved}
 use Rattle.kept_marks.specs.Properties.{StepsIn}
 use Rattle.kept_input.specs.declared.KeptInput.{KeptInput}
 use Rattle.kept_input.specs.declared.Changed.{Changed}
-use Rattle.kept_input.specs.Held.{heldInput, storedInput}
+use Rattle.kept_input.specs.Held.{held_input, stored_input}
 
 -- the value that a history begins with
 pub record BeginsEmpty (k : KeptInput) : Type 0 where
-  pub value : k ≡ storedInput (replicate maxTokens 0) emptyInput
-  pub holds : heldInput k ≡ emptyInput
+  pub value : k ≡ stored_input (replicate max_tokens 0) empty_input
+  pub holds : held_input k ≡ empty_input
 
 -- a step, of any value
 abbrev pub Steps : (t : Step) (before : KeptInput) (r : Changed) → Type 0
@@ -29,10 +29,10 @@ Adds event events before events' r = StepsIn (Add event) events before r events'
 -- judging what is kept
 pub record JudgesKept (k : Lookahead) (words : List ℕ) (kept : KeptInput) (table memo : List ℕ) (r : Answer) (table' memo' : List ℕ) : Type 0 where
   -- all that judging promises of the events that the value holds, which are never too many for it
-  pub judges : Judges k words (input_of (heldInput kept).events) table memo r table' memo'
-  pub short : length (input_of (heldInput kept).events) ≤ maxTokens
+  pub judges : Judges k words (input_of (held_input kept).events) table memo r table' memo'
+  pub short : length (input_of (held_input kept).events) ≤ max_tokens
   -- whichever history from an empty input without marks left it, the judgement is that of the events which the history leaves, taken afresh
   -- with the same grammar and lent memory
-  pub afresh : (history : List Step) → heldInput kept ≡ ran history emptyInput → (a : Answer) (table'' memo'' : List ℕ)
-      → Judges k words (input_of (ran history emptyInput).events) table memo a table'' memo''
+  pub afresh : (history : List Step) → held_input kept ≡ ran history empty_input → (a : Answer) (table'' memo'' : List ℕ)
+      → Judges k words (input_of (ran history empty_input).events) table memo a table'' memo''
       → (r ≡ a) × (table' ≡ table'') × (memo' ≡ memo'')

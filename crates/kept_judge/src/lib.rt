@@ -1,7 +1,7 @@
 // Judging an input that is kept between calls, with one token of lookahead and with two.
 ghost use Rattle.std.specs.Prelude.{◌≡◌};
 ghost use Rattle.lookahead.specs.declared.Lookahead.TheVariants.{One, Two};
-ghost use Rattle.kept_marks.specs.Stored.{readLength};
+ghost use Rattle.kept_marks.specs.Stored.{length_read};
 ghost use Rattle.kept_input.specs.Properties.{JudgesKept};
 
 use answer::Answer;
@@ -11,7 +11,7 @@ use recognizer::{judge, judge_two};
 
 // How many of the events are the input.
 fn input_length(progress: Progress) -> usize
-    ensures { result ≡ readLength progress }
+    ensures { result ≡ length_read progress }
 {
     bounded(progress.length) as usize
 }

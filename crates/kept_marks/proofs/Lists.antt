@@ -10,35 +10,35 @@ use Rattle.base.specs.Choice.{choose}
 use Rattle.kept_marks.specs.Stored.{values_of}
 
 -- a function applied to the first elements of a list
-unfoldable pub appliedTo : (ℕ → ℕ) → ℕ → List ℕ → List ℕ
-appliedTo f zero l = l
-appliedTo f (suc n) [] = []
-appliedTo f (suc n) (x ∷ l) = f x ∷ appliedTo f n l
+unfoldable pub applied_to : (ℕ → ℕ) → ℕ → List ℕ → List ℕ
+applied_to f zero l = l
+applied_to f (suc n) [] = []
+applied_to f (suc n) (x ∷ l) = f x ∷ applied_to f n l
 
-pub applied-none : (f : ℕ → ℕ) (l : List ℕ) → l ≡ appliedTo f 0 l
-unfolding appliedTo
-applied-none f l = refl
+pub applied_none : (f : ℕ → ℕ) (l : List ℕ) → l ≡ applied_to f 0 l
+unfolding applied_to
+applied_none f l = refl
 
-applied-suc : (f : ℕ → ℕ) (n : ℕ) (l : List ℕ) → set (appliedTo f n l) n (f (get_or (appliedTo f n l) n 0)) ≡ appliedTo f (suc n) l
-unfolding appliedTo
-applied-suc f zero [] = refl
-applied-suc f zero (x ∷ l) = refl
-applied-suc f (suc n) [] = refl
-applied-suc f (suc n) (x ∷ l) = ap (λ (m : List ℕ). f x ∷ m) (applied-suc f n l)
+applied_suc : (f : ℕ → ℕ) (n : ℕ) (l : List ℕ) → set (applied_to f n l) n (f (get_or (applied_to f n l) n 0)) ≡ applied_to f (suc n) l
+unfolding applied_to
+applied_suc f zero [] = refl
+applied_suc f zero (x ∷ l) = refl
+applied_suc f (suc n) [] = refl
+applied_suc f (suc n) (x ∷ l) = ap (λ (m : List ℕ). f x ∷ m) (applied_suc f n l)
 
-pub applied-more : (f : ℕ → ℕ) (n : ℕ) (l : List ℕ) {now : List ℕ} {y : ℕ} → now ≡ appliedTo f n l → y ≡ f (get_or now n 0) → set now n y ≡ appliedTo f (n + 1) l
-applied-more f n l e q = rw (q, e, add-one n) (applied-suc f n l)
+pub applied_more : (f : ℕ → ℕ) (n : ℕ) (l : List ℕ) {now : List ℕ} {y : ℕ} → now ≡ applied_to f n l → y ≡ f (get_or now n 0) → set now n y ≡ applied_to f (n + 1) l
+applied_more f n l e q = rw (q, e, add-one n) (applied_suc f n l)
 
-pub applied-all : (f : ℕ → ℕ) (n : ℕ) (l : List ℕ) → length l ≤ n → appliedTo f n l ≡ map f l
-unfolding appliedTo
-applied-all f zero [] h = refl
-applied-all f zero (x ∷ l) h = absurd (omega arith)
-applied-all f (suc n) [] h = refl
-applied-all f (suc n) (x ∷ l) h = ap (λ (m : List ℕ). f x ∷ m) (applied-all f n l (omega arith))
+pub applied_all : (f : ℕ → ℕ) (n : ℕ) (l : List ℕ) → length l ≤ n → applied_to f n l ≡ map f l
+unfolding applied_to
+applied_all f zero [] h = refl
+applied_all f zero (x ∷ l) h = absurd (omega arith)
+applied_all f (suc n) [] h = refl
+applied_all f (suc n) (x ∷ l) h = ap (λ (m : List ℕ). f x ∷ m) (applied_all f n l (omega arith))
 
-pub map-map : (f g : ℕ → ℕ) (l : List ℕ) → map g (map f l) ≡ map (λ x. g (f x)) l
-map-map f g [] = refl
-map-map f g (x ∷ l) = ap (λ (m : List ℕ). g (f x) ∷ m) (map-map f g l)
+pub map_map : (f g : ℕ → ℕ) (l : List ℕ) → map g (map f l) ≡ map (λ x. g (f x)) l
+map_map f g [] = refl
+map_map f g (x ∷ l) = ap (λ (m : List ℕ). g (f x) ∷ m) (map_map f g l)
 
 -- the values of a function
 pub values_same : {f g : ℕ → ℕ} → ((m : ℕ) → f m ≡ g m) → (n : ℕ) → values_of f n ≡ values_of g n
@@ -49,17 +49,17 @@ unfolding values_of
 values_length f zero = refl
 values_length f (suc n) = ap suc (values_length (λ m. f (suc m)) n)
 
-pub values-at : (f : ℕ → ℕ) (n m d : ℕ) → m < n → get_or (values_of f n) m d ≡ f m
+pub values_at : (f : ℕ → ℕ) (n m d : ℕ) → m < n → get_or (values_of f n) m d ≡ f m
 unfolding values_of
-values-at f zero m d h = absurd (omega arith)
-values-at f (suc n) zero d h = refl
-values-at f (suc n) (suc m) d h = values-at (λ k. f (suc k)) n m d (omega arith)
+values_at f zero m d h = absurd (omega arith)
+values_at f (suc n) zero d h = refl
+values_at f (suc n) (suc m) d h = values_at (λ k. f (suc k)) n m d (omega arith)
 
 -- those of a list
-pub values-list : (g : ℕ → ℕ) (d : ℕ) (l : List ℕ) → values_of (λ m. g (get_or l m d)) (length l) ≡ map g l
+pub values_list : (g : ℕ → ℕ) (d : ℕ) (l : List ℕ) → values_of (λ m. g (get_or l m d)) (length l) ≡ map g l
 unfolding values_of
-values-list g d [] = refl
-values-list g d (x ∷ l) = ap (λ (m : List ℕ). g x ∷ m) (values-list g d l)
+values_list g d [] = refl
+values_list g d (x ∷ l) = ap (λ (m : List ℕ). g x ∷ m) (values_list g d l)
 
 pub elements : (l : List ℕ) → values_of (λ m. get_or l m 0) (length l) ≡ l
 unfolding values_of
@@ -67,16 +67,16 @@ elements [] = refl
 elements (x ∷ l) = ap (λ (m : List ℕ). x ∷ m) (elements l)
 
 -- with another value at one place
-pub values-set : (x : ℕ) (f : ℕ → ℕ) (m n : ℕ) → values_of (λ k. choose (eqb k m) x (f k)) n ≡ set (values_of f n) m x
+pub values_set : (x : ℕ) (f : ℕ → ℕ) (m n : ℕ) → values_of (λ k. choose (eqb k m) x (f k)) n ≡ set (values_of f n) m x
 unfolding values_of
-values-set x f m zero = refl
-values-set x f zero (suc n) =
+values_set x f m zero = refl
+values_set x f zero (suc n) =
     let here : choose (eqb 0 0) x (f 0) ≡ x = refl in
     let behind : values_of (λ k. choose (eqb (suc k) 0) x (f (suc k))) n ≡ values_of (λ k. f (suc k)) n = values_same (λ k. rw (eqb-suc-zero k)) n in
     cc
-values-set x f (suc m) (suc n) =
+values_set x f (suc m) (suc n) =
     let here : choose (eqb 0 (suc m)) x (f 0) ≡ f 0 = rw (eqb-zero-suc m) in
     let same : values_of (λ k. choose (eqb (suc k) (suc m)) x (f (suc k))) n ≡ values_of (λ k. choose (eqb k m) x (f (suc k))) n =
     values_same (λ k. rw (eqb-suc-suc k m)) n in
-    let behind : values_of (λ k. choose (eqb k m) x (f (suc k))) n ≡ set (values_of (λ k. f (suc k)) n) m x = values-set x (λ k. f (suc k)) m n in
+    let behind : values_of (λ k. choose (eqb k m) x (f (suc k))) n ≡ set (values_of (λ k. f (suc k)) n) m x = values_set x (λ k. f (suc k)) m n in
     cc

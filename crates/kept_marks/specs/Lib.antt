@@ -1,4 +1,4 @@
 pub mod Stored
 pub mod Properties
-pub mod contracts
+pub mod inner
 pub mod examples

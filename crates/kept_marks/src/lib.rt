@@ -1,9 +1,9 @@
 // The length of an input that is kept between calls, and the marks to return to: what marking and returning need of it.
 ghost use Rattle.std.specs.Prelude.{◌≡◌, map, min};
-ghost use Rattle.grammar.specs.Limits.{maxTokens};
-ghost use Rattle.kept_steps.specs.Histories.{emptyInput, Mark, Return};
-ghost use Rattle.kept_marks.specs.contracts.Stored.{clearedBeyond};
-ghost use Rattle.kept_marks.specs.Stored.{progressOf};
+ghost use Rattle.grammar.specs.Limits.{max_tokens};
+ghost use Rattle.kept_steps.specs.Histories.{empty_input, Mark, Return};
+ghost use Rattle.kept_marks.specs.inner.Stored.{cleared_beyond};
+ghost use Rattle.kept_marks.specs.Stored.{progress_of};
 ghost use Rattle.kept_marks.specs.Properties.{Reads, Moves};
 
 use answer::{Answer, Error};
@@ -32,20 +32,20 @@ pub struct Moved {
 
 // The length that a value tells: at most the limit.
 pub fn bounded(length: u16) -> u16
-    ensures { result ≡ min length maxTokens }
+    ensures { result ≡ min length max_tokens }
 {
     if length <= LIMIT { length } else { LIMIT }
 }
 
 fn cleared(mark: u16, length: u16) -> u16
-    ensures { result ≡ clearedBeyond length mark }
+    ensures { result ≡ cleared_beyond length mark }
 {
     if mark <= length { mark } else { UNSET }
 }
 
 // Those beyond a length are cleared.
 fn all_cleared(marks: [u16; MARKS], length: u16) -> [u16; MARKS]
-    ensures { result ≡ map (clearedBeyond length) marks }
+    ensures { result ≡ map (cleared_beyond length) marks }
 {
     let mut within = marks;
     let mut at = 0;
@@ -58,7 +58,7 @@ fn all_cleared(marks: [u16; MARKS], length: u16) -> [u16; MARKS]
 
 impl Progress {
     pub fn new() -> Progress
-        ensures { result ≡ progressOf emptyInput }
+        ensures { result ≡ progress_of empty_input }
     {
         Progress {
             length: 0,

@@ -1,9 +1,9 @@
 // A kept log in memory of the caller's: its events, and a row of nine numbers that are its length and its eight marks.
 ghost use Rattle.std.specs.Prelude.{◌≡◌};
 ghost use Rattle.kept_steps.specs.Histories.{Mark, Return};
-ghost use Rattle.kept_input.specs.Held.{keptInput};
-ghost use Rattle.embed_promises.specs.Kept.{state_of, progressIn, AddExported, MoveExported};
-ghost use Rattle.embed_promises.specs.contracts.Kept.{StateRead, WrittenBack};
+ghost use Rattle.kept_input.specs.Held.{kept_input};
+ghost use Rattle.embed_promises.specs.Kept.{state_of, progress_in, AddExported, MoveExported};
+ghost use Rattle.embed_promises.specs.inner.Kept.{StateRead, WrittenBack};
 
 use answer::Answer;
 use grammar::limits::TOKENS;
@@ -85,7 +85,7 @@ pub fn return_in(state: &mut [u16; STATE], mark: u32) -> u64
 
 // The log as it stands there.
 pub fn kept_in(events: &[u8; TOKENS], state: &[u16; STATE]) -> KeptInput
-    ensures { result ≡ keptInput events.now (progressIn state.now) }
+    ensures { result ≡ kept_input events.now (progress_in state.now) }
 {
     let stored = *state;
     let progress = progress_in(stored);

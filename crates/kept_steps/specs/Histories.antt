@@ -3,12 +3,12 @@ use Rattle.std.specs.Prelude.{List, [], ◌∷◌, ◌++◌, ℕ, leb, eqb, leng
 use Rattle.std.proofs.Math.Option.{Option, none, some}
 use Rattle.answer.specs.declared.Error.{Error}
 use Rattle.answer.specs.declared.Error.TheVariants.{UnknownMark, MarkNotSet, InputFull}
-use Rattle.answer.specs.Faults.{faultIf, firstFault}
+use Rattle.answer.specs.Faults.{fault_if, first_fault}
 use Rattle.base.specs.Choice.{choose}
-use Rattle.grammar.specs.Limits.{maxTokens}
+use Rattle.grammar.specs.Limits.{max_tokens}
 
-abbrev pub markCount : ℕ
-markCount = 8
+abbrev pub mark_count : ℕ
+mark_count = 8
 
 -- the events so far, as they came, and the length that each mark notes, where it is set
 pub record Kept : Type 0 where
@@ -16,8 +16,8 @@ pub record Kept : Type 0 where
   pub marks : ℕ → Option ℕ
 
 -- an empty log without marks
-abbrev pub emptyInput : Kept
-emptyInput = record { events = []; marks = λ m. none }
+abbrev pub empty_input : Kept
+empty_input = record { events = []; marks = λ m. none }
 
 pub data Step : Type 0 where
   Add : ℕ → Step
@@ -25,26 +25,26 @@ pub data Step : Type 0 where
   Return : ℕ → Step
 
 abbrev pub unknown : ℕ → Option Error
-unknown m = faultIf (leb markCount m) UnknownMark
+unknown m = fault_if (leb mark_count m) UnknownMark
 
-abbrev pub notSet : Option ℕ → Option Error
-notSet none = some MarkNotSet
-notSet (some n) = none
+abbrev pub not_set : Option ℕ → Option Error
+not_set none = some MarkNotSet
+not_set (some n) = none
 
 -- why a step is refused
-unfoldable pub stepFault : Step → Kept → Option Error
-stepFault (Add event) s = firstFault (faultIf (leb maxTokens (length s.events)) InputFull ∷ [])
-stepFault (Mark m) s = firstFault (unknown m ∷ [])
-stepFault (Return m) s = firstFault (unknown m ∷ notSet (s.marks m) ∷ [])
+unfoldable pub step_fault : Step → Kept → Option Error
+step_fault (Add event) s = first_fault (fault_if (leb max_tokens (length s.events)) InputFull ∷ [])
+step_fault (Mark m) s = first_fault (unknown m ∷ [])
+step_fault (Return m) s = first_fault (unknown m ∷ not_set (s.marks m) ∷ [])
 
 -- a mark within a length stays, and one beyond it is cleared
-abbrev pub withinLength : ℕ → Option ℕ → Option ℕ
-withinLength n none = none
-withinLength n (some k) = choose (leb k n) (some k) none
+abbrev pub within_length : ℕ → Option ℕ → Option ℕ
+within_length n none = none
+within_length n (some k) = choose (leb k n) (some k) none
 
 abbrev pub cut_at : Option ℕ → Kept → Kept
 cut_at none s = s
-cut_at (some n) s = record { events = take n s.events; marks = λ k. withinLength n (s.marks k) }
+cut_at (some n) s = record { events = take n s.events; marks = λ k. within_length n (s.marks k) }
 
 -- what a step does
 unfoldable pub done : Step → Kept → Kept
@@ -53,14 +53,14 @@ done (Mark m) s = record { events = s.events; marks = λ k. choose (eqb k m) (so
 done (Return m) s = cut_at (s.marks m) s
 
 -- a refused step changes nothing
-abbrev pub unlessRefused : {A : Type 0} → Option Error → A → A → A
-unlessRefused (some e) new old = old
-unlessRefused none new old = new
+abbrev pub unless_refused : {A : Type 0} → Option Error → A → A → A
+unless_refused (some e) new old = old
+unless_refused none new old = new
 
-unfoldable pub afterStep : Step → Kept → Kept
-afterStep t s = unlessRefused (stepFault t s) (done t s) s
+unfoldable pub after_step : Step → Kept → Kept
+after_step t s = unless_refused (step_fault t s) (done t s) s
 
 -- a history of steps, the first one first
 unfoldable pub ran : List Step → Kept → Kept
 ran [] s = s
-ran (t ∷ l) s = ran l (afterStep t s)
+ran (t ∷ l) s = ran l (after_step t s)

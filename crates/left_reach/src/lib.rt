@@ -1,7 +1,7 @@
 // What each nonterminal left-reaches, by what is at the left of its rules: through one nonterminal after the other (Warshall).
 ghost use Rattle.std.specs.Prelude.{◌≡◌, ◌<◌, min, length};
-ghost use Rattle.grammar.specs.Limits.{maxNonterminals};
-ghost use Rattle.families.specs.contracts.Reach.{extended, through, closure};
+ghost use Rattle.grammar.specs.Limits.{max_nonterminals};
+ghost use Rattle.families.specs.inner.Reach.{extended, through, closure};
 
 use families::SETS;
 use families::nonterminals::{Nonterminals, at_most};
@@ -19,7 +19,7 @@ fn extend(set: Nonterminals, via: u32, beyond: Nonterminals) -> Nonterminals
 
 // Each set goes on through one nonterminal. Most have nothing beyond them.
 fn go_through(sets: &mut [u32; SETS], via: u32)
-    requires { (via < maxNonterminals) × (length sets.old ≡ maxNonterminals) }
+    requires { (via < max_nonterminals) × (length sets.old ≡ max_nonterminals) }
     ensures { sets.new ≡ through via sets.old }
 {
     let bits = sets[via as usize];
@@ -37,7 +37,7 @@ fn go_through(sets: &mut [u32; SETS], via: u32)
 
 // Each set goes on through all nonterminals.
 pub fn closed(sets: [u32; SETS], nonterminals: u32) -> [u32; SETS]
-    ensures { result ≡ closure (min nonterminals maxNonterminals) sets }
+    ensures { result ≡ closure (min nonterminals max_nonterminals) sets }
 {
     let all = at_most(nonterminals);
     let mut reached = sets;

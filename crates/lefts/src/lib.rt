@@ -1,9 +1,9 @@
 // What is at the left of a body and of a rule, made longer by one word at a time from the end.
 ghost use Rattle.std.specs.Prelude.{◌≡◌};
-ghost use Rattle.families.specs.contracts.Least.{at as family};
-ghost use Rattle.families.specs.contracts.Left.{emptyIn, ownLeft, lefts, insideLeft};
-ghost use Rattle.families.specs.contracts.Rules.{foldFromEnd};
-ghost use Rattle.lookahead.specs.contracts.Operations.{emptySet, join};
+ghost use Rattle.families.specs.inner.Least.{at as family};
+ghost use Rattle.families.specs.inner.Left.{empty_in, own_left, lefts, inside_left};
+ghost use Rattle.families.specs.inner.Rules.{fold_from_end};
+ghost use Rattle.lookahead.specs.inner.Operations.{empty_set, join};
 
 use families::nonterminals::Nonterminals;
 use families::{Left, SETS};
@@ -27,7 +27,7 @@ fn symbol_left(
     firsts: &[u64; SETS],
     lookahead: Lookahead,
 ) -> Nonterminals
-    ensures { result.bits ≡ ownLeft (emptyIn lookahead (family firsts.now)) symbol behind.bits }
+    ensures { result.bits ≡ own_left (empty_in lookahead (family firsts.now)) symbol behind.bits }
 {
     let Symbol::Nonterminal(number) = symbol else {
         return Nonterminals::empty();
@@ -47,7 +47,7 @@ fn symbol_left(
 
 // A body ends: what is at its left is at the left of the rule too.
 fn ended(body: Nonterminals, rule: Nonterminals) -> Left
-    ensures { result ≡ lefts emptySet (join body.bits rule.bits) }
+    ensures { result ≡ lefts empty_set (join body.bits rule.bits) }
 {
     Left {
         body: Nonterminals::empty(),
@@ -57,7 +57,7 @@ fn ended(body: Nonterminals, rule: Nonterminals) -> Left
 
 // The same with a word inside a rule in front. Bodies of both signs count.
 fn inside_left(word: Word, left: Left, firsts: &[u64; SETS], lookahead: Lookahead) -> Left
-    ensures { result ≡ insideLeft (emptyIn lookahead (family firsts.now)) word left }
+    ensures { result ≡ inside_left (empty_in lookahead (family firsts.now)) word left }
 {
     let body = left.body;
     let rule = left.rule;
@@ -80,7 +80,7 @@ fn inside_left(word: Word, left: Left, firsts: &[u64; SETS], lookahead: Lookahea
 
 // What is at the left of the bodies of a rule, by the words inside it.
 pub fn rule_left(words: &[u32], firsts: &[u64; SETS], lookahead: Lookahead) -> Nonterminals
-    ensures { result.bits ≡ (foldFromEnd (insideLeft (emptyIn lookahead (family firsts.now)))
+    ensures { result.bits ≡ (fold_from_end (inside_left (empty_in lookahead (family firsts.now)))
         (lefts 0 0) words.now).rule.bits }
 {
     let mut left = no_left();

@@ -1,12 +1,12 @@
 // Lending the table back: the words of what is found of a grammar, two sets for each nonterminal and then a row of entries for each, are laid
 // out in the caller's memory.
 ghost use Rattle.std.specs.Prelude.{◌≡◌, ◌+◌, ◌*◌, ◌≤◌, ◌<◌, replicate};
-ghost use Rattle.grammar.specs.Codes.{noEntry};
-ghost use Rattle.grammar.specs.Limits.{maxNonterminals, maxTableWords};
-ghost use Rattle.grammar.specs.contracts.Limits.{maxEntries};
+ghost use Rattle.grammar.specs.Codes.{no_entry};
+ghost use Rattle.grammar.specs.Limits.{max_nonterminals, max_table_words};
+ghost use Rattle.grammar.specs.inner.Limits.{max_entries};
 ghost use Rattle.lookahead.specs.declared.Lookahead.TheVariants.{One, Two};
-ghost use Rattle.lent_words.specs.contracts.Words.{lentSizes};
-ghost use Rattle.lending.specs.contracts.Lending.{tableWordAt, wordCount, lent_by, SizesGiven, madeUp};
+ghost use Rattle.lent_words.specs.inner.Words.{lent_sizes};
+ghost use Rattle.lending.specs.inner.Lending.{table_word_at, word_count, lent_by, SizesGiven, made_up};
 
 use columns::count;
 use families::{Finding, SETS};
@@ -27,8 +27,8 @@ fn word<'a>(
     entries: &'a [u8; ENTRIES],
     at: usize,
 ) -> u64
-    requires { (nonterminals ≤ maxNonterminals) × (at < 2 * nonterminals + maxEntries) }
-    ensures { result ≡ tableWordAt nonterminals firsts.now follows.now entries.now at }
+    requires { (nonterminals ≤ max_nonterminals) × (at < 2 * nonterminals + max_entries) }
+    ensures { result ≡ table_word_at nonterminals firsts.now follows.now entries.now at }
 {
     let sets = 2 * nonterminals;
     if sets <= at {
@@ -44,7 +44,7 @@ fn word<'a>(
 // How many words there are.
 fn word_count(sizes: Sizes, lookahead: Lookahead) -> usize
     requires { SizesGiven sizes }
-    ensures { result ≡ wordCount lookahead sizes }
+    ensures { result ≡ word_count lookahead sizes }
 {
     sizes.nonterminals as usize * (2 + count(lookahead, sizes.terminals))
 }
@@ -57,8 +57,8 @@ fn lay_out<'a>(
     follows: &'a [u64; SETS],
     entries: &'a [u8; ENTRIES],
 )
-    requires { SizesGiven sizes × (words.old ≡ replicate maxTableWords noEntry) }
-    ensures { words.new ≡ madeUp sizes firsts.now follows.now entries.now }
+    requires { SizesGiven sizes × (words.old ≡ replicate max_table_words no_entry) }
+    ensures { words.new ≡ made_up sizes firsts.now follows.now entries.now }
 {
     let nonterminals = sizes.nonterminals as usize;
     let count = word_count(sizes, Lookahead::One);
@@ -79,7 +79,7 @@ pub fn lend<'a>(
     table: &mut [u32],
 )
     ensures { table.new
-        ≡ lent_by One (lentSizes finding) firsts.now follows.now entries.now table.old }
+        ≡ lent_by One (lent_sizes finding) firsts.now follows.now entries.now table.old }
 {
     let sizes = lent_sizes(finding);
     let count = word_count(sizes, Lookahead::One);
@@ -104,7 +104,7 @@ pub fn lend_two<'a>(
     table: &mut [u64],
 )
     ensures { table.new
-        ≡ lent_by Two (lentSizes finding) firsts.now follows.now entries.now table.old }
+        ≡ lent_by Two (lent_sizes finding) firsts.now follows.now entries.now table.old }
 {
     let sizes = lent_sizes(finding);
     let nonterminals = sizes.nonterminals as usize;

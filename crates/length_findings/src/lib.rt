@@ -1,6 +1,6 @@
 // What is found of lent memory, of a grammar and then of a length, all inputs of which are to be judged by it: the first error of these.
 ghost use Rattle.std.specs.Prelude.{◌≡◌};
-ghost use Rattle.promises.specs.contracts.Lengths.{withSearch};
+ghost use Rattle.promises.specs.inner.Lengths.{with_search};
 
 use answer::Error;
 use families::Finding;
@@ -10,7 +10,7 @@ use inputs::{INPUTS, count_inputs};
 // With a lent memo table and a lent log of so many entries and bytes: that they are long enough, that the length is not too great, and that there
 // are not too many inputs of it.
 pub fn with_length(finding: Finding, tokens: usize, log: usize, memo: usize) -> Finding
-    ensures { result ≡ withSearch log memo finding tokens }
+    ensures { result ≡ with_search log memo finding tokens }
 {
     if memo < MEMO_ENTRIES {
         return Finding::Refused(Error::MemoTooShort);

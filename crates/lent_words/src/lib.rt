@@ -1,6 +1,6 @@
 // What is lent of a finding: the sizes of the table, and an entry as a word.
 ghost use Rattle.std.specs.Prelude.{◌≡◌};
-ghost use Rattle.lent_words.specs.contracts.Words.{entryCode, lentSizes};
+ghost use Rattle.lent_words.specs.inner.Words.{entry_code, lent_sizes};
 
 use families::Finding;
 use grammar::codes::{NO_ENTRY, NO_RULE};
@@ -10,7 +10,7 @@ use grammar::reading::Sizes;
 // The sizes of the table that is lent: none where the grammar is refused, or where they are past the limits, as those of no grammar that passes
 // are.
 pub fn lent_sizes(finding: Finding) -> Sizes
-    ensures { result ≡ lentSizes finding }
+    ensures { result ≡ lent_sizes finding }
 {
     let none = Sizes {
         nonterminals: 0,
@@ -33,7 +33,7 @@ pub fn lent_sizes(finding: Finding) -> Sizes
 
 // An entry as a word.
 pub fn entry_word(entry: u8) -> u64
-    ensures { result ≡ entryCode entry }
+    ensures { result ≡ entry_code entry }
 {
     if entry == NO_RULE {
         NO_ENTRY as u64

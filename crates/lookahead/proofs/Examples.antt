@@ -2,14 +2,14 @@
 -- b = 4, aa = 256 and ab = 512.
 use mathlib.Core.Path.{◌≡◌, refl}
 use native.Mathlib.Omega.{arith}
-use Rattle.base.specs.Quantifiers.{all_of, anyBelow, countBelow}
+use Rattle.base.specs.Quantifiers.{all_of, any_below, count_below}
 use Rattle.lookahead.specs.declared.Lookahead.TheVariants.{One, Two}
-use Rattle.lookahead.specs.Lookaheads.{stringOf}
-use Rattle.lookahead.specs.contracts.Lookaheads.{elementAfter}
-use Rattle.lookahead.specs.Elements.{has, totalWeight, width, size}
-use Rattle.lookahead.specs.contracts.Operations.{join, meet, full, elementBehind, inConcat, concatNumbers}
+use Rattle.lookahead.specs.Lookaheads.{string_of}
+use Rattle.lookahead.specs.inner.Lookaheads.{element_after}
+use Rattle.lookahead.specs.Elements.{has, total_weight, width, size}
+use Rattle.lookahead.specs.inner.Operations.{join, meet, full, element_behind, in_concat, concat_numbers}
 use Rattle.lookahead.proofs.Operations.{has_join, has_meet}
-use Rattle.lookahead.proofs.Bounds.{join-bound, meet-bound}
+use Rattle.lookahead.proofs.Bounds.{join_bound, meet_bound}
 use Rattle.lookahead.proofs.Weights.{total_of}
 
 pub record Worked : Type 0 where
@@ -18,29 +18,29 @@ pub record Worked : Type 0 where
   -- {a, b, nothing} and {b, nothing}: {b, nothing}
   pub met : meet 16777219 16777218 ≡ 16777218
   -- {a, nothing} and {b}: {a, b}
-  pub through : concatNumbers One 16777217 2 ≡ 3
+  pub through : concat_numbers One 16777217 2 ≡ 3
   -- {a} and {b}: {a}
-  pub stopped : concatNumbers One 1 2 ≡ 1
+  pub stopped : concat_numbers One 1 2 ≡ 1
   -- {a, nothing} and {}: {}
-  pub none : concatNumbers One 16777217 0 ≡ 0
+  pub none : concat_numbers One 16777217 0 ≡ 0
   -- {a, nothing} has two elements
   pub counted : size 16777217 ≡ 2
   -- {a, nothing} and {b, nothing}: {a, ab, b, nothing}
-  pub both : concatNumbers Two 3 5 ≡ 519
+  pub both : concat_numbers Two 3 5 ≡ 519
   -- {a} and {ba}: {ab}
-  pub cut : concatNumbers Two 2 32768 ≡ 512
+  pub cut : concat_numbers Two 2 32768 ≡ 512
   -- {ab} and {b}: {ab}
-  pub kept : concatNumbers Two 512 4 ≡ 512
+  pub kept : concat_numbers Two 512 4 ≡ 512
   -- {ab} and {}: {}
-  pub lost : concatNumbers Two 512 0 ≡ 0
+  pub lost : concat_numbers Two 512 0 ≡ 0
   -- over a alone: {nothing, a, aa}
   pub all : full Two 1 ≡ 259
 
 pub worked : Worked
-unfolding totalWeight countBelow size has concatNumbers inConcat elementBehind anyBelow elementAfter stringOf full all_of
+unfolding total_weight count_below size has concat_numbers in_concat element_behind any_below element_after string_of full all_of
 worked = record {
-  joined = total_of width (join 1 16777216) _ (join-bound width 1 16777216 (omega arith) (omega arith)) (has_join 1 16777216);
-  met = total_of width (meet 16777219 16777218) _ (meet-bound width 16777219 16777218 (omega arith)) (has_meet 16777219 16777218);
+  joined = total_of width (join 1 16777216) _ (join_bound width 1 16777216 (omega arith) (omega arith)) (has_join 1 16777216);
+  met = total_of width (meet 16777219 16777218) _ (meet_bound width 16777219 16777218 (omega arith)) (has_meet 16777219 16777218);
   through = refl;
   stopped = refl;
   none = refl;

@@ -1,3 +1,3 @@
 pub mod Lookaheads
 pub mod Elements
-pub mod contracts
+pub mod inner

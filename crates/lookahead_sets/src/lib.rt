@@ -1,7 +1,7 @@
 // Lookahead sets: the strings of one or two tokens that may come next, shorter ones before the end of the input.
 ghost use Rattle.std.specs.Prelude.{◌≡◌};
 ghost use Rattle.lookahead.specs.Elements.{has, size};
-ghost use Rattle.lookahead.specs.contracts.Operations.{is_empty, Empty, End, Terminal, Joined, SetsMet};
+ghost use Rattle.lookahead.specs.inner.Operations.{is_empty, Empty, End, Terminal, Joined, SetsMet};
 
 use lookahead::{Lookahead, alphabet, nothing, single};
 

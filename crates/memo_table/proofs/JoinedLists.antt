@@ -5,7 +5,7 @@ use mathlib.Core.Path.{◌≡◌, refl, sym, ap, ◌∙◌}
 use Prim.Native.Nat.{ℕ, zero, suc, ◌+◌}
 use native.Mathlib.Omega.{arith}
 use lib.ListN.{length}
-use Rattle.base.specs.FiniteSets.{keep, numbersFrom, numbersBelow, combine}
+use Rattle.base.specs.FiniteSets.{keep, numbers_from, numbers_below, combine}
 use Rattle.base.specs.Quantifiers.{one}
 
 module _ {X : Type 0} (p : X → Bool) where
@@ -29,25 +29,25 @@ module _ {X : Type 0} (p : X → Bool) where
       go true = refl
       go false = refl
 
-numbersFrom-more : (a n : ℕ) → numbersFrom a (suc n) ≡ numbersFrom a n ++ ((a + n) ∷ [])
-unfolding numbersFrom
-numbersFrom-more a zero = let e : a ≡ a + 0 = omega arith in ap {B = List ℕ} (λ b. b ∷ []) e
-numbersFrom-more a (suc n) = let e : suc a + n ≡ a + suc n = omega arith in ap {B = List ℕ} (λ l. a ∷ l) (rw (← e) (numbersFrom-more (suc a) n))
+numbers_from_more : (a n : ℕ) → numbers_from a (suc n) ≡ numbers_from a n ++ ((a + n) ∷ [])
+unfolding numbers_from
+numbers_from_more a zero = let e : a ≡ a + 0 = omega arith in ap {B = List ℕ} (λ b. b ∷ []) e
+numbers_from_more a (suc n) = let e : suc a + n ≡ a + suc n = omega arith in ap {B = List ℕ} (λ l. a ∷ l) (rw (← e) (numbers_from_more (suc a) n))
 
-pub numbers_more : (n : ℕ) → numbersBelow (n + 1) ≡ numbersBelow n ++ (n ∷ [])
-unfolding numbersBelow
+pub numbers_more : (n : ℕ) → numbers_below (n + 1) ≡ numbers_below n ++ (n ∷ [])
+unfolding numbers_below
 numbers_more n =
     let e : n + 1 ≡ suc n = omega arith in
     let d : 0 + n ≡ n = omega arith in
-    ap (numbersFrom 0) e ∙ numbersFrom-more 0 n ∙ ap (λ b. numbersFrom 0 n ++ (b ∷ [])) d
+    ap (numbers_from 0) e ∙ numbers_from_more 0 n ∙ ap (λ b. numbers_from 0 n ++ (b ∷ [])) d
 
 module _ {X Y Z : Type 0} (f : X → Y → Z) (ys : List Y) where
-  combine-append : (xs xs' : List X) → combine f (xs ++ xs') ys ≡ combine f xs ys ++ combine f xs' ys
+  combine_append : (xs xs' : List X) → combine f (xs ++ xs') ys ≡ combine f xs ys ++ combine f xs' ys
   unfolding combine
-  combine-append [] xs' = refl
-  combine-append (x ∷ xs) xs' = ap (λ l. map (f x) ys ++ l) (combine-append xs xs') ∙ sym (append_assoc (map (f x) ys) (combine f xs ys) (combine f xs' ys))
+  combine_append [] xs' = refl
+  combine_append (x ∷ xs) xs' = ap (λ l. map (f x) ys ++ l) (combine_append xs xs') ∙ sym (append_assoc (map (f x) ys) (combine f xs ys) (combine f xs' ys))
 
   -- one element more of the first list adds a row
-  pub combine-more : (xs : List X) (x : X) → combine f (xs ++ (x ∷ [])) ys ≡ combine f xs ys ++ map (f x) ys
+  pub combine_more : (xs : List X) (x : X) → combine f (xs ++ (x ∷ [])) ys ≡ combine f xs ys ++ map (f x) ys
   unfolding combine
-  combine-more xs x = combine-append xs (x ∷ []) ∙ ap (λ l. combine f xs ys ++ l) (append-nil (map (f x) ys))
+  combine_more xs x = combine_append xs (x ∷ []) ∙ ap (λ l. combine f xs ys ++ l) (append-nil (map (f x) ys))

@@ -1,17 +1,17 @@
 // The memo table as a whole: cleared before a descent, and the calls that it made read off it afterwards.
 ghost use Rattle.std.specs.Prelude.{◌≡◌, ◌+◌, ◌*◌, ◌≤◌, min, length, replicate};
 ghost use Rattle.base.specs.Quantifiers.{one};
-ghost use Rattle.grammar.specs.Codes.{uncalledCode};
-ghost use Rattle.semantics.specs.Calls.{greatestPlace};
-ghost use Rattle.memo_table.specs.contracts.Tally.{records, recordedBelow, calledAt, recordedCalls, recordedTally, recordedVerdict, blockEntries};
-ghost use Rattle.memo_table.specs.contracts.Tally.{BlockGiven, RowsGiven};
+ghost use Rattle.grammar.specs.Codes.{uncalled_code};
+ghost use Rattle.semantics.specs.Calls.{greatest_place};
+ghost use Rattle.memo_table.specs.inner.Tally.{records, recorded_below, called_at, recorded_calls, recorded_tally, recorded_verdict, block_entries};
+ghost use Rattle.memo_table.specs.inner.Tally.{BlockGiven, RowsGiven};
 
 use answer::{Answer, Calls};
 use grammar::codes::UNCALLED;
 
 // Makes every entry one of a call that was not made.
 pub fn clear(memo: &mut [u16])
-    ensures { memo.new ≡ replicate (length memo.old) uncalledCode }
+    ensures { memo.new ≡ replicate (length memo.old) uncalled_code }
 {
     let mut at = 0;
     while at < memo.len() {
@@ -25,7 +25,7 @@ const BLOCK: usize = 65535;
 
 // How many of the entries that are left the next block holds.
 fn block_of(left: usize) -> usize
-    ensures { result ≡ min left blockEntries }
+    ensures { result ≡ min left block_entries }
 {
     if left < BLOCK { left } else { BLOCK }
 }
@@ -40,7 +40,7 @@ fn calls_of(entry: u16) -> u16
 // How many calls the entries from one index to another record.
 fn count_block(memo: &[u16], from: usize, to: usize) -> u16
     requires { BlockGiven memo.now from to }
-    ensures { recordedBelow memo.now from + result ≡ recordedBelow memo.now to }
+    ensures { recorded_below memo.now from + result ≡ recorded_below memo.now to }
 {
     let mut count = 0;
     let mut at = from;
@@ -54,7 +54,7 @@ fn count_block(memo: &[u16], from: usize, to: usize) -> u16
 // How many calls the first entries record.
 fn count_first(memo: &[u16], entries: usize) -> usize
     requires { entries ≤ length memo.now }
-    ensures { result ≡ recordedBelow memo.now entries }
+    ensures { result ≡ recorded_below memo.now entries }
 {
     let mut count = 0;
     let mut from = 0;
@@ -68,7 +68,7 @@ fn count_first(memo: &[u16], entries: usize) -> usize
 
 // How many calls a memo table records.
 pub fn count_calls(memo: &[u16]) -> usize
-    ensures { result ≡ recordedBelow memo.now (length memo.now) }
+    ensures { result ≡ recorded_below memo.now (length memo.now) }
 {
     count_first(memo, memo.len())
 }
@@ -76,7 +76,7 @@ pub fn count_calls(memo: &[u16]) -> usize
 // Whether one of the first nonterminals was called at a place.
 fn called_at(memo: &[u16], nonterminals: usize, tokens: usize, place: usize) -> bool
     requires { RowsGiven memo.now nonterminals tokens place }
-    ensures { result ≡ calledAt memo.now nonterminals tokens place }
+    ensures { result ≡ called_at memo.now nonterminals tokens place }
 {
     let mut nonterminal = 0;
     while nonterminal < nonterminals {
@@ -91,7 +91,7 @@ fn called_at(memo: &[u16], nonterminals: usize, tokens: usize, place: usize) -> 
 // The farthest place at which one was called, or 0.
 fn farthest(memo: &[u16], nonterminals: usize, tokens: usize) -> usize
     requires { nonterminals * (tokens + 1) ≤ length memo.now }
-    ensures { result ≡ greatestPlace (recordedCalls memo.now nonterminals tokens) }
+    ensures { result ≡ greatest_place (recorded_calls memo.now nonterminals tokens) }
 {
     let mut place = tokens;
     while 0 < place {
@@ -105,7 +105,7 @@ fn farthest(memo: &[u16], nonterminals: usize, tokens: usize) -> usize
 
 // The calls that a memo table for an input of so many tokens records: it has as many rows as there is room for.
 fn tally(memo: &[u16], tokens: u16) -> Calls
-    ensures { result ≡ recordedTally memo.now tokens }
+    ensures { result ≡ recorded_tally memo.now tokens }
 {
     let places = tokens as usize + 1;
     let nonterminals = memo.len() / places;
@@ -116,7 +116,7 @@ fn tally(memo: &[u16], tokens: u16) -> Calls
 
 // The verdict on an input of so many tokens, by the entry of the start's call: accepted where that ends with the input.
 pub fn verdict(memo: &[u16], end: u16, tokens: u16) -> Answer
-    ensures { result ≡ recordedVerdict memo.now end tokens }
+    ensures { result ≡ recorded_verdict memo.now end tokens }
 {
     let calls = tally(memo, tokens);
     if end == tokens {

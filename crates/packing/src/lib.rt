@@ -2,7 +2,7 @@
 ghost use Rattle.std.specs.Prelude.{◌≡◌, ◌%◌};
 ghost use Rattle.answer.specs.Numbers.{numbers};
 ghost use Rattle.embed_promises.specs.Packing.{joined, packed};
-ghost use Rattle.embed_promises.specs.contracts.Packing.{cut};
+ghost use Rattle.embed_promises.specs.inner.Packing.{cut};
 
 use answer::{Answer, code, position};
 

@@ -8,60 +8,60 @@ use native.Mathlib.Omega.{arith}
 use lib.Bits.{bit_and, bit_or}
 use lib.Dec.{T, eqb, ltb, eqb→eq, ltb→lt, lt→ltb}
 use borrow.Author.Tests.{lt-ltb, le-ltb}
-use Rattle.base.specs.Quantifiers.{anyBelow}
-use Rattle.base.proofs.Booleans.{T-subst, test, both, and_l, and_r, and-make, or_l, or_r, or_cases}
-use Rattle.base.proofs.Quantified.{below-make, below-elim}
+use Rattle.base.specs.Quantifiers.{any_below}
+use Rattle.base.proofs.Booleans.{T_subst, test, both, and_l, and_r, and_make, or_l, or_r, or_cases}
+use Rattle.base.proofs.Quantified.{below_make, below_elim}
 use Rattle.lookahead.specs.Elements.{has, width}
-use Rattle.pair_rows.specs.contracts.Rows.{Has, isSingle, begins}
-use Rattle.lookahead.proofs.Elements.{has-or, has-and, has-shift, bounded}
-use Rattle.lookahead.proofs.Digits.{has-under, has-over}
-use Rattle.lookahead.proofs.Powers.{has-ones}
+use Rattle.pair_rows.specs.inner.Rows.{Has, is_single, begins}
+use Rattle.lookahead.proofs.Elements.{has_or, has_and, has_shift, bounded}
+use Rattle.lookahead.proofs.Digits.{has_under, has_over}
+use Rattle.lookahead.proofs.Powers.{has_ones}
 use Rattle.pair_rows.proofs.Shifts.{Spread, unmoved, further}
 
 -- the terminals alone
 abbrev pub singles : ℕ
 singles = 254
 
-pub has-singles : (l : ℕ) → has singles l ≡ isSingle l
-has-singles l = go (dec_lt 0 l) (dec_lt l 8)
+pub has_singles : (l : ℕ) → has singles l ≡ is_single l
+has_singles l = go (dec_lt 0 l) (dec_lt l 8)
   where
     above : 0 < l → has ((2 ^ 7 - 1) * 2 ^ 1) l ≡ ltb (l - 1) 7
-    above p = let e : l ≡ 1 + (l - 1) = omega arith in ap (has ((2 ^ 7 - 1) * 2 ^ 1)) e ∙ has-over (2 ^ 7 - 1) 1 (l - 1) ∙ has-ones 7 (l - 1)
+    above p = let e : l ≡ 1 + (l - 1) = omega arith in ap (has ((2 ^ 7 - 1) * 2 ^ 1)) e ∙ has_over (2 ^ 7 - 1) 1 (l - 1) ∙ has_ones 7 (l - 1)
 
-    go : Dec (0 < l) → Dec (l < 8) → has singles l ≡ isSingle l
-    go (no p) q = rw (le-ltb 0 l (omega arith)) (has-under (2 ^ 7 - 1) 1 l (omega arith))
+    go : Dec (0 < l) → Dec (l < 8) → has singles l ≡ is_single l
+    go (no p) q = rw (le-ltb 0 l (omega arith)) (has_under (2 ^ 7 - 1) 1 l (omega arith))
     go (yes p) (yes q) = rw (lt-ltb 0 l p, lt-ltb l 8 q) (above p ∙ lt-ltb (l - 1) 7 (omega arith))
     go (yes p) (no q) = rw (lt-ltb 0 l p, le-ltb l 8 (omega arith)) (above p ∙ le-ltb (l - 1) 7 (omega arith))
 
-pub single-in : (l : ℕ) → T (isSingle l) → (0 < l) × (l < 8)
-single-in l t = (ltb→lt 0 l (and_l (ltb 0 l) (ltb l 8) t), ltb→lt l 8 (and_r (ltb 0 l) (ltb l 8) t))
+pub single_in : (l : ℕ) → T (is_single l) → (0 < l) × (l < 8)
+single_in l t = (ltb→lt 0 l (and_l (ltb 0 l) (ltb l 8) t), ltb→lt l 8 (and_r (ltb 0 l) (ltb l 8) t))
 
-pub single-make : (l : ℕ) → 0 < l → l < 8 → T (isSingle l)
-single-make l h i = and-make (ltb 0 l) (ltb l 8) (lt→ltb 0 l h) (lt→ltb l 8 i)
+pub single_make : (l : ℕ) → 0 < l → l < 8 → T (is_single l)
+single_make l h i = and_make (ltb 0 l) (ltb l 8) (lt→ltb 0 l h) (lt→ltb l 8 i)
 
 -- the last pair of each row
-abbrev pub rowEnds : ℕ
-rowEnds = 72624976668147712
+abbrev pub row_ends : ℕ
+row_ends = 72624976668147712
 
-none-missing : anyBelow 7 (λ r. not (has rowEnds (14 + 7 * r))) ≡ false
-unfolding anyBelow has
-none-missing = refl
+none_missing : any_below 7 (λ r. not (has row_ends (14 + 7 * r))) ≡ false
+unfolding any_below has
+none_missing = refl
 
-row-end : (r : ℕ) → r < 7 → T (has rowEnds (14 + 7 * r))
-row-end r h = elim (test (has rowEnds (14 + 7 * r))) [
+row_end : (r : ℕ) → r < 7 → T (has row_ends (14 + 7 * r))
+row_end r h = elim (test (has row_ends (14 + 7 * r))) [
   | inl t ↦ t
-  | inr n ↦ absurd (T-subst none-missing (below-make 7 (λ r. not (has rowEnds (14 + 7 * r))) r h n))
+  | inr n ↦ absurd (T_subst none_missing (below_make 7 (λ r. not (has row_ends (14 + 7 * r))) r h n))
 ]
 
-no_other : anyBelow 57 (λ p. has rowEnds p && not (eqb (p % 7) 0)) ≡ false
-unfolding anyBelow has
+no_other : any_below 57 (λ p. has row_ends p && not (eqb (p % 7) 0)) ≡ false
+unfolding any_below has
 no_other = refl
 
-at-end : (p : ℕ) → T (has rowEnds p) → p % 7 ≡ 0
-at-end p t = elim (test (eqb (p % 7) 0)) [
+at_end : (p : ℕ) → T (has row_ends p) → p % 7 ≡ 0
+at_end p t = elim (test (eqb (p % 7) 0)) [
   | inl e ↦ eqb→eq (p % 7) 0 e
-  | inr n ↦ absurd (T-subst no_other (below-make 57 (λ p. has rowEnds p && not (eqb (p % 7) 0)) p (bounded 57 rowEnds p (omega arith) t)
-      (and-make (has rowEnds p) (not (eqb (p % 7) 0)) t n)))
+  | inr n ↦ absurd (T_subst no_other (below_make 57 (λ p. has row_ends p && not (eqb (p % 7) 0)) p (bounded 57 row_ends p (omega arith) t)
+      (and_make (has row_ends p) (not (eqb (p % 7) 0)) t n)))
 ]
 
 module _ (y : ℕ) where
@@ -74,32 +74,32 @@ module _ (y : ℕ) where
   abbrev seven : ℕ
   seven = bit_or four (four * 2 ^ 3 % 2 ^ width)
 
-  by-seven : Spread 1 y 7 seven
-  by-seven =
+  by_seven : Spread 1 y 7 seven
+  by_seven =
       let a = unmoved 1 y in
       let b = further 1 y 1 1 1 1 refl (omega arith) (omega arith) a a in
       let c = further 1 y 2 2 2 2 refl (omega arith) (omega arith) b b in
       further 1 y 4 4 3 3 refl (omega arith) (omega arith) c c
 
   abbrev row : ℕ
-  row = bit_and seven rowEnds
+  row = bit_and seven row_ends
 
-  in_row : (l : ℕ) → T (has row l) → T (has seven l) × T (has rowEnds l)
-  in_row l t = let u = rw (has-and seven rowEnds l) at t in (and_l (has seven l) (has rowEnds l) u, and_r (has seven l) (has rowEnds l) u)
+  in_row : (l : ℕ) → T (has row l) → T (has seven l) × T (has row_ends l)
+  in_row l t = let u = rw (has_and seven row_ends l) at t in (and_l (has seven l) (has row_ends l) u, and_r (has seven l) (has row_ends l) u)
 
   -- a row has a pair just where its last digit is set
-  filled : (r : ℕ) → r < 7 → T (has row (14 + 7 * r)) → T (anyBelow 7 (λ q. has y (8 + 7 * r + q)))
+  filled : (r : ℕ) → r < 7 → T (has row (14 + 7 * r)) → T (any_below 7 (λ q. has y (8 + 7 * r + q)))
   filled r h t =
-      let d = by-seven.to (14 + 7 * r) (in_row (14 + 7 * r) t).0 in
+      let d = by_seven.to (14 + 7 * r) (in_row (14 + 7 * r) t).0 in
       let e : (14 + 7 * r) - 1 * d.0 ≡ 8 + 7 * r + (6 - d.0) = omega (arith, d.1) in
-      below-make 7 (λ q. has y (8 + 7 * r + q)) (6 - d.0) (omega arith) (T-subst (ap (has y) e) d.3)
+      below_make 7 (λ q. has y (8 + 7 * r + q)) (6 - d.0) (omega arith) (T_subst (ap (has y) e) d.3)
 
-  fills : (r : ℕ) → r < 7 → T (anyBelow 7 (λ q. has y (8 + 7 * r + q))) → T (has row (14 + 7 * r))
+  fills : (r : ℕ) → r < 7 → T (any_below 7 (λ q. has y (8 + 7 * r + q))) → T (has row (14 + 7 * r))
   fills r h t =
-      let d = below-elim 7 (λ q. has y (8 + 7 * r + q)) t in
+      let d = below_elim 7 (λ q. has y (8 + 7 * r + q)) t in
       let e : 8 + 7 * r + d.0 ≡ (14 + 7 * r) - 1 * (6 - d.0) = omega (arith, d.1) in
-      rw (has-and seven rowEnds (14 + 7 * r)) (and-make (has seven (14 + 7 * r)) (has rowEnds (14 + 7 * r))
-      (by-seven.from (14 + 7 * r) (6 - d.0) (omega arith) (omega arith) (omega arith) (T-subst (ap (has y) e) d.2)) (row-end r h))
+      rw (has_and seven row_ends (14 + 7 * r)) (and_make (has seven (14 + 7 * r)) (has row_ends (14 + 7 * r))
+      (by_seven.from (14 + 7 * r) (6 - d.0) (omega arith) (omega arith) (omega arith) (T_subst (ap (has y) e) d.2)) (row_end r h))
 
   abbrev rows : ℕ
   rows = bit_or row (row * 2 ^ 6 % 2 ^ width)
@@ -122,44 +122,44 @@ module _ (y : ℕ) where
   aside : (r : ℕ) → r < 7 → T (has all (50 + r)) → T (has row (14 + 7 * r))
   aside r h t =
       let d = by_rows.to (50 + r) t in
-      let s = at-end ((50 + r) - 6 * d.0) (in_row ((50 + r) - 6 * d.0) d.3).1 in
+      let s = at_end ((50 + r) - 6 * d.0) (in_row ((50 + r) - 6 * d.0) d.3).1 in
       let e : (50 + r) - 6 * d.0 ≡ 14 + 7 * r = omega (arith, d.1, s) in
-      T-subst (ap (has row) e) d.3
+      T_subst (ap (has row) e) d.3
 
   asides : (r : ℕ) → r < 7 → T (has row (14 + 7 * r)) → T (has all (50 + r))
   asides r h t =
       let e : 14 + 7 * r ≡ (50 + r) - 6 * (6 - r) = omega arith in
-      by_rows.from (50 + r) (6 - r) (omega arith) (omega arith) (omega arith) (T-subst (ap (has row) e) t)
+      by_rows.from (50 + r) (6 - r) (omega arith) (omega arith) (omega arith) (T_subst (ap (has row) e) t)
 
   -- so these and the terminals alone are what strings begin with
-  pub firsts-are : Has (bit_and (bit_or (all / 2 ^ 49) y) singles) (λ l. isSingle l && begins y (l - 1))
+  pub firsts_are : Has (bit_and (bit_or (all / 2 ^ 49) y) singles) (λ l. is_single l && begins y (l - 1))
   unfolding begins
-  firsts-are l =
-      has-and (bit_or (all / 2 ^ 49) y) singles l
-      ∙ both (has (bit_or (all / 2 ^ 49) y) l && has singles l) (isSingle l && begins y (l - 1)) to from
+  firsts_are l =
+      has_and (bit_or (all / 2 ^ 49) y) singles l
+      ∙ both (has (bit_or (all / 2 ^ 49) y) l && has singles l) (is_single l && begins y (l - 1)) to from
     where
-      to : T (has (bit_or (all / 2 ^ 49) y) l && has singles l) → T (isSingle l && begins y (l - 1))
+      to : T (has (bit_or (all / 2 ^ 49) y) l && has singles l) → T (is_single l && begins y (l - 1))
       to t =
-          let s = rw (has-singles l) at (and_r (has (bit_or (all / 2 ^ 49) y) l) (has singles l) t) in
-          let b = single-in l s in
+          let s = rw (has_singles l) at (and_r (has (bit_or (all / 2 ^ 49) y) l) (has singles l) t) in
+          let b = single_in l s in
           let i : suc (l - 1) ≡ l = omega (arith, b.0) in
           let j : 49 + l ≡ 50 + (l - 1) = omega (arith, b.0) in
-          and-make (isSingle l) (begins y (l - 1)) s (elim (or_cases (has (all / 2 ^ 49) l) (has y l)
-          (rw (has-or (all / 2 ^ 49) y l) at (and_l (has (bit_or (all / 2 ^ 49) y) l) (has singles l) t))) [
+          and_make (is_single l) (begins y (l - 1)) s (elim (or_cases (has (all / 2 ^ 49) l) (has y l)
+          (rw (has_or (all / 2 ^ 49) y l) at (and_l (has (bit_or (all / 2 ^ 49) y) l) (has singles l) t))) [
             | inl u ↦ or_r (has y (suc (l - 1))) _ (filled (l - 1) (omega (arith, b.1, b.0)) (aside (l - 1) (omega (arith, b.1, b.0))
-                (T-subst (ap (has all) j) (rw (has-shift all 49 l) at u))))
+                (T_subst (ap (has all) j) (rw (has_shift all 49 l) at u))))
             | inr u ↦ or_l (has y (suc (l - 1))) _ (rw i u)
           ])
 
-      from : T (isSingle l && begins y (l - 1)) → T (has (bit_or (all / 2 ^ 49) y) l && has singles l)
+      from : T (is_single l && begins y (l - 1)) → T (has (bit_or (all / 2 ^ 49) y) l && has singles l)
       from t =
-          let s = and_l (isSingle l) (begins y (l - 1)) t in
-          let b = single-in l s in
+          let s = and_l (is_single l) (begins y (l - 1)) t in
+          let b = single_in l s in
           let i : suc (l - 1) ≡ l = omega (arith, b.0) in
           let j : 50 + (l - 1) ≡ 49 + l = omega (arith, b.0) in
-          and-make (has (bit_or (all / 2 ^ 49) y) l) (has singles l)
-          (rw (has-or (all / 2 ^ 49) y l) (elim (or_cases (has y (suc (l - 1))) _ (and_r (isSingle l) (begins y (l - 1)) t)) [
+          and_make (has (bit_or (all / 2 ^ 49) y) l) (has singles l)
+          (rw (has_or (all / 2 ^ 49) y l) (elim (or_cases (has y (suc (l - 1))) _ (and_r (is_single l) (begins y (l - 1)) t)) [
             | inl u ↦ or_r (has (all / 2 ^ 49) l) (has y l) (rw i at u)
-            | inr u ↦ or_l (has (all / 2 ^ 49) l) (has y l) (rw (has-shift all 49 l) (T-subst (ap (has all) j)
+            | inr u ↦ or_l (has (all / 2 ^ 49) l) (has y l) (rw (has_shift all 49 l) (T_subst (ap (has all) j)
                 (asides (l - 1) (omega (arith, b.1, b.0)) (fills (l - 1) (omega (arith, b.1, b.0)) u))))
-          ])) (rw (has-singles l) s)
+          ])) (rw (has_singles l) s)

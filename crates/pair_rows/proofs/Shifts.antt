@@ -9,26 +9,26 @@ use lib.Pow.{pow_pos}
 use native.Mathlib.Omega.{arith}
 use lib.Bits.{bit_or}
 use lib.Dec.{T}
-use Rattle.base.proofs.Booleans.{T-subst, or_l, or_r, or_cases}
+use Rattle.base.proofs.Booleans.{T_subst, or_l, or_r, or_cases}
 use Rattle.lookahead.specs.Elements.{has, width}
-use Rattle.lookahead.proofs.Elements.{has-or, has_above}
-use Rattle.lookahead.proofs.Digits.{has-over, moved, mask_low}
+use Rattle.lookahead.proofs.Elements.{has_or, has_above}
+use Rattle.lookahead.proofs.Digits.{has_over, moved, mask_low}
 
 -- a digit of a number that is moved up within the width
-pub up-elim : (x k l : ℕ) → T (has (x * 2 ^ k % 2 ^ width) l) → (k ≤ l) × T (has x (l - k))
-up-elim x k l t = go (dec_lt l width)
+pub up_elim : (x k l : ℕ) → T (has (x * 2 ^ k % 2 ^ width) l) → (k ≤ l) × T (has x (l - k))
+up_elim x k l t = go (dec_lt l width)
   where
     go : Dec (l < width) → (k ≤ l) × T (has x (l - k))
     go (yes h) =
         let d = moved x k l (rw (mask_low (x * 2 ^ k) width l h) at t) in
         let e : d.0 ≡ l - k = omega (arith, d.1) in
-        (omega (arith, d.1), T-subst (ap (has x) e) d.2)
+        (omega (arith, d.1), T_subst (ap (has x) e) d.2)
     go (no h) = absurd (rw (has_above width (x * 2 ^ k % 2 ^ width) l (mod-lt (x * 2 ^ k) (pow_pos width)) (omega arith)) at t)
 
-pub up-make : (x k l : ℕ) → l < width → k ≤ l → T (has x (l - k)) → T (has (x * 2 ^ k % 2 ^ width) l)
-up-make x k l h i t =
+pub up_make : (x k l : ℕ) → l < width → k ≤ l → T (has x (l - k)) → T (has (x * 2 ^ k % 2 ^ width) l)
+up_make x k l h i t =
     let e : k + (l - k) ≡ l = omega arith in
-    rw (mask_low (x * 2 ^ k) width l h) (T-subst (ap (has (x * 2 ^ k)) e) (rw (has-over x k (l - k)) t))
+    rw (mask_low (x * 2 ^ k) width l h) (T_subst (ap (has (x * 2 ^ k)) e) (rw (has_over x k (l - k)) t))
 
 -- the digits of z are those of x moved up by fewer than n steps of u places
 pub record Spread (u x n z : ℕ) : Type 0 where
@@ -38,8 +38,8 @@ pub record Spread (u x n z : ℕ) : Type 0 where
 module _ (u x : ℕ) where
   pub unmoved : Spread u x 1 x
   unmoved = record {
-    to = λ l t. let e : l ≡ l - u * 0 = omega arith in (0, omega arith, omega arith, T-subst (ap (has x) e) t);
-    from = λ l q h i b t. let z : q ≡ 0 = omega arith in let e : l - u * q ≡ l = ap (λ (n : ℕ). l - u * n) z ∙ omega arith in T-subst (ap (has x) e) t;
+    to = λ l t. let e : l ≡ l - u * 0 = omega arith in (0, omega arith, omega arith, T_subst (ap (has x) e) t);
+    from = λ l q h i b t. let z : q ≡ 0 = omega arith in let e : l - u * q ≡ l = ap (λ (n : ℕ). l - u * n) z ∙ omega arith in T_subst (ap (has x) e) t;
   }
 
   -- what is moved up by fewer than n steps, and what is by fewer than m, moved up by j more
@@ -51,17 +51,17 @@ module _ (u x : ℕ) where
       moves q = mul-add u j q ∙ ap (λ (w : ℕ). w + u * q) e
 
       to : (l : ℕ) → T (has (bit_or y (z * 2 ^ k % 2 ^ width)) l) → (q : ℕ) × (q < j + m) × (u * q ≤ l) × T (has x (l - u * q))
-      to l t = elim (or_cases (has y l) (has (z * 2 ^ k % 2 ^ width) l) (rw (has-or y (z * 2 ^ k % 2 ^ width) l) at t)) [
+      to l t = elim (or_cases (has y l) (has (z * 2 ^ k % 2 ^ width) l) (rw (has_or y (z * 2 ^ k % 2 ^ width) l) at t)) [
         | inl v ↦ let d = a.to l v in (d.0, omega (arith, d.1), d.2, d.3)
         | inr v ↦
-            let p = up-elim z k l v in
+            let p = up_elim z k l v in
             let d = b.to (l - k) p.1 in
             let w : (l - k) - u * d.0 ≡ l - u * (j + d.0) = omega (arith, moves d.0, p.0, d.2) in
-            (j + d.0, omega (arith, d.1), omega (arith, moves d.0, p.0, d.2), T-subst (ap (has x) w) d.3)
+            (j + d.0, omega (arith, d.1), omega (arith, moves d.0, p.0, d.2), T_subst (ap (has x) w) d.3)
       ]
 
       from : (l q : ℕ) → l < width → q < j + m → u * q ≤ l → T (has x (l - u * q)) → T (has (bit_or y (z * 2 ^ k % 2 ^ width)) l)
-      from l q c d f t = rw (has-or y (z * 2 ^ k % 2 ^ width) l) (go (dec_lt q n))
+      from l q c d f t = rw (has_or y (z * 2 ^ k % 2 ^ width) l) (go (dec_lt q n))
         where
           go : Dec (q < n) → T (has y l || has (z * 2 ^ k % 2 ^ width) l)
           go (yes s) = or_l (has y l) _ (a.from l q c s f t)
@@ -69,5 +69,5 @@ module _ (u x : ℕ) where
               let p : j + (q - j) ≡ q = omega arith in
               let v : u * q ≡ k + u * (q - j) = ap (λ (w : ℕ). u * w) (sym p) ∙ moves (q - j) in
               let w : l - u * q ≡ (l - k) - u * (q - j) = omega (arith, v) in
-              let r : T (has z (l - k)) = b.from (l - k) (q - j) (omega arith) (omega arith) (omega (arith, v)) (T-subst (ap (has x) w) t) in
-              or_r (has y l) _ (up-make z k l c (omega (arith, v)) r)
+              let r : T (has z (l - k)) = b.from (l - k) (q - j) (omega arith) (omega arith) (omega (arith, v)) (T_subst (ap (has x) w) t) in
+              or_r (has y l) _ (up_make z k l c (omega (arith, v)) r)

@@ -1,8 +1,8 @@
 // With two tokens of lookahead, what is looked at where terminals alone are followed by the strings of a set: a row of pairs for each.
 ghost use Rattle.std.specs.Prelude.{◌-◌, ◌&&◌};
 ghost use Rattle.lookahead.specs.declared.Lookahead.TheVariants.{Two};
-ghost use Rattle.lookahead.specs.contracts.Operations.{terminal, Concatenated};
-ghost use Rattle.pair_rows.specs.contracts.Rows.{Has, isSingle, begins, inRows};
+ghost use Rattle.lookahead.specs.inner.Operations.{terminal, Concatenated};
+ghost use Rattle.pair_rows.specs.inner.Rows.{Has, is_single, begins, in_rows};
 
 use grammar::limits::TERMINALS_OF_TWO;
 use lookahead_sets::LookaheadSet;
@@ -17,7 +17,7 @@ const ROW_ENDS: u64 = 0x102040810204000;
 
 // What the strings begin with, each terminal alone. That a row has a pair is moved up to its last one, and from there side by side.
 fn firsts(set: LookaheadSet) -> LookaheadSet
-    ensures { Has result.bits (λ l. isSingle l && begins set.bits (l - 1)) }
+    ensures { Has result.bits (λ l. is_single l && begins set.bits (l - 1)) }
 {
     let bits = set.bits;
     let two = bits | bits << 1;
@@ -50,7 +50,7 @@ pub fn row(l: u32, other: LookaheadSet) -> LookaheadSet
 
 // The same for each terminal that is alone in a set, all rows at once: each is the product of its start and the first tokens.
 pub fn rows(set: LookaheadSet, other: LookaheadSet) -> LookaheadSet
-    ensures { Has result.bits (inRows set.bits other.bits 7) }
+    ensures { Has result.bits (in_rows set.bits other.bits 7) }
 {
     let alone = set.bits & SINGLES;
     if alone == 0 {

@@ -4,9 +4,9 @@ use mathlib.Core.List.{List}
 use Prim.Native.Nat.{ℕ}
 use Rattle.promises.specs.Directions.{DirectionsIgnored}
 
-pub directions-ignored : {Left : Type 0} (Promise : List ℕ → Left → Type 0) → ((w : List ℕ) (l m : Left) → Promise w l → Promise w m → l ≡ m)
+pub directions_ignored : {Left : Type 0} (Promise : List ℕ → Left → Type 0) → ((w : List ℕ) (l m : Left) → Promise w l → Promise w m → l ≡ m)
     → DirectionsIgnored Promise
-directions-ignored Promise settled events turned e l m p q = settled _ l m (subst (λ w. Promise w l) e p) q
+directions_ignored Promise settled events turned e l m p q = settled _ l m (subst (λ w. Promise w l) e p) q
 
 -- what is left is often a pair: it is the same where both parts are
 pub pair_same : {A B : Type 0} {x y : A × B} → x.0 ≡ y.0 → x.1 ≡ y.1 → x ≡ y

@@ -8,35 +8,35 @@ use lib.ListN.{length}
 use borrow.Author.Tests.{ltb-false}
 use Rattle.answer.specs.declared.Error.{Error}
 use Rattle.answer.specs.declared.Error.TheVariants.{InputTooLong, UnknownToken}
-use Rattle.answer.specs.Faults.{faultIf}
-use Rattle.answer.proofs.Faults.{fault-none, OfFault, of_none, of_some, of-if, EachFault}
+use Rattle.answer.specs.Faults.{fault_if}
+use Rattle.answer.proofs.Faults.{fault_none, OfFault, of_none, of_some, of_if, EachFault}
 use Rattle.base.specs.Choice.{choose}
 use Rattle.event.specs.declared.Unknown.TheVariants.{At}
-use Rattle.event.specs.Unknown.{unknownFrom, unknownFault}
-use Rattle.grammar.specs.Limits.{maxTokens}
+use Rattle.event.specs.Unknown.{unknown_from, unknown_fault}
+use Rattle.grammar.specs.Limits.{max_tokens}
 
 -- the errors of an input
 pub record InputErrors (P : Error → Type 0) : Type 0 where
-  pub tooLong : P InputTooLong
-  pub unknownToken : (i : ℕ) → i < maxTokens → P (UnknownToken i)
+  pub too_long : P InputTooLong
+  pub unknown_token : (i : ℕ) → i < max_tokens → P (UnknownToken i)
 
 module _ {P : Error → Type 0} (each : InputErrors P) where
-  unknown-each : (n at : ℕ) (w : List ℕ) → at + length w ≤ maxTokens → OfFault P (unknownFault (unknownFrom n at w))
-  unfolding unknownFrom
-  unknown-each n at [] h = of_none P
-  unknown-each n at (a ∷ w) h = go (ltb a n) (unknown-each n (suc at) w (omega arith))
+  unknown_each : (n at : ℕ) (w : List ℕ) → at + length w ≤ max_tokens → OfFault P (unknown_fault (unknown_from n at w))
+  unfolding unknown_from
+  unknown_each n at [] h = of_none P
+  unknown_each n at (a ∷ w) h = go (ltb a n) (unknown_each n (suc at) w (omega arith))
     where
-      go : (b : Bool) → OfFault P (unknownFault (unknownFrom n (suc at) w)) → OfFault P (unknownFault (choose b (unknownFrom n (suc at) w) (At at)))
+      go : (b : Bool) → OfFault P (unknown_fault (unknown_from n (suc at) w)) → OfFault P (unknown_fault (choose b (unknown_from n (suc at) w) (At at)))
       go true later = later
-      go false later = of_some P (UnknownToken at) (each.unknownToken at (omega arith))
+      go false later = of_some P (UnknownToken at) (each.unknown_token at (omega arith))
 
   -- where it may have so many tokens
-  pub input-each : (limit n : ℕ) (input : List ℕ) → limit ≤ maxTokens
-      → EachFault P (faultIf (ltb limit (length input)) InputTooLong ∷ unknownFault (unknownFrom n 0 input) ∷ [])
-  input-each limit n input few = (
-    of-if P (ltb limit (length input)) InputTooLong each.tooLong,
+  pub input_each : (limit n : ℕ) (input : List ℕ) → limit ≤ max_tokens
+      → EachFault P (fault_if (ltb limit (length input)) InputTooLong ∷ unknown_fault (unknown_from n 0 input) ∷ [])
+  input_each limit n input few = (
+    of_if P (ltb limit (length input)) InputTooLong each.too_long,
     λ q. (
-      unknown-each n 0 input (omega (arith, ltb-false limit (length input) (fault-none (ltb limit (length input)) InputTooLong q))),
+      unknown_each n 0 input (omega (arith, ltb-false limit (length input) (fault_none (ltb limit (length input)) InputTooLong q))),
       λ _. tt,
     ),
   )

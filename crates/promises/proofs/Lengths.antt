@@ -6,20 +6,20 @@ use borrow.Author.Tests.{lt-ltb, le-ltb}
 use Rattle.answer.specs.declared.Error.TheVariants.{InputTooLong, TooManyInputs}
 use Rattle.families.specs.declared.Finding.{Finding}
 use Rattle.families.specs.declared.Finding.TheVariants.{Passed, Refused}
-use Rattle.grammar.specs.Limits.{maxTokens}
+use Rattle.grammar.specs.Limits.{max_tokens}
 use Rattle.grammar.specs.declared.reading.Sizes.{Sizes}
-use Rattle.inputs.specs.Inputs.{maxInputs}
-use Rattle.inputs.specs.contracts.Inputs.{inputCount}
-use Rattle.inputs.proofs.Counting.{count-over, count-few}
-use Rattle.promises.specs.contracts.Lengths.{withLength}
+use Rattle.inputs.specs.Inputs.{max_inputs}
+use Rattle.inputs.specs.inner.Inputs.{input_count}
+use Rattle.inputs.proofs.Counting.{count_over, count_few}
+use Rattle.promises.specs.inner.Lengths.{with_length}
 
 module _ {f : Finding} {z : Sizes} (p : f ≡ Passed z) (k : ℕ) where
-  pub length_over : maxTokens < k → Refused InputTooLong ≡ withLength f k
-  length_over h = rw (p, lt-ltb maxTokens k h)
+  pub length_over : max_tokens < k → Refused InputTooLong ≡ with_length f k
+  length_over h = rw (p, lt-ltb max_tokens k h)
 
-  module _ (short : k ≤ maxTokens) {inputs : ℕ} (e : inputs ≡ inputCount z.terminals k) where
-    pub inputs-over : maxInputs < inputs → Refused TooManyInputs ≡ withLength f k
-    inputs-over h = rw (p, le-ltb maxTokens k short, lt-ltb maxInputs (z.terminals ^ k) (count-over z.terminals k (omega arith)))
+  module _ (short : k ≤ max_tokens) {inputs : ℕ} (e : inputs ≡ input_count z.terminals k) where
+    pub inputs_over : max_inputs < inputs → Refused TooManyInputs ≡ with_length f k
+    inputs_over h = rw (p, le-ltb max_tokens k short, lt-ltb max_inputs (z.terminals ^ k) (count_over z.terminals k (omega arith)))
 
-    pub length-fits : inputs ≤ maxInputs → Passed z ≡ withLength f k
-    length-fits h = rw (p, le-ltb maxTokens k short, le-ltb maxInputs (z.terminals ^ k) (count-few z.terminals k (omega arith)))
+    pub length_fits : inputs ≤ max_inputs → Passed z ≡ with_length f k
+    length_fits h = rw (p, le-ltb max_tokens k short, le-ltb max_inputs (z.terminals ^ k) (count_few z.terminals k (omega arith)))

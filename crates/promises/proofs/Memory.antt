@@ -5,12 +5,12 @@ use mathlib.Core.Option.{Option, none, some}
 use Prim.Native.Nat.{ℕ}
 use lib.ListN.{length, drop}
 use Rattle.answer.specs.declared.Error.{Error}
-use Rattle.promises.specs.Memory.{lentBack}
+use Rattle.promises.specs.Memory.{lent_back}
 
 -- a call that is refused leaves what was there
-pub refused-stays : {f : Option Error} {x : Error} (new old : List ℕ) → f ≡ some x → old ≡ lentBack f new old
-refused-stays new old e = sym (ap (λ f. lentBack f new old) e)
+pub refused_stays : {f : Option Error} {x : Error} (new old : List ℕ) → f ≡ some x → old ≡ lent_back f new old
+refused_stays new old e = sym (ap (λ f. lent_back f new old) e)
 
 -- another leaves new words in front of it
-pub faultless-lends : {f : Option Error} (new old : List ℕ) → f ≡ none → lentBack f new old ≡ new ++ drop (length new) old
-faultless-lends new old e = ap (λ f. lentBack f new old) e
+pub faultless_lends : {f : Option Error} (new old : List ℕ) → f ≡ none → lent_back f new old ≡ new ++ drop (length new) old
+faultless_lends new old e = ap (λ f. lent_back f new old) e

@@ -3,13 +3,13 @@ use Rattle.std.specs.Prelude.{List, [], ◌∷◌, ℕ, ◌^◌, ltb}
 use Rattle.std.proofs.Math.Option.{Option}
 use Rattle.answer.specs.declared.Error.{Error}
 use Rattle.answer.specs.declared.Error.TheVariants.{InputTooLong, TooManyInputs}
-use Rattle.answer.specs.Faults.{faultIf}
-use Rattle.grammar.specs.Limits.{maxTokens}
-use Rattle.inputs.specs.Inputs.{maxInputs}
+use Rattle.answer.specs.Faults.{fault_if}
+use Rattle.grammar.specs.Limits.{max_tokens}
+use Rattle.inputs.specs.Inputs.{max_inputs}
 
 -- the faults of a length n for a grammar of so many terminals: that it is too great, then that there are too many inputs of it
-abbrev pub lengthFaults : ℕ → ℕ → List (Option Error)
-lengthFaults terminals n =
-    faultIf (ltb maxTokens n) InputTooLong
-    ∷ faultIf (ltb maxInputs (terminals ^ n)) TooManyInputs
+abbrev pub length_faults : ℕ → ℕ → List (Option Error)
+length_faults terminals n =
+    fault_if (ltb max_tokens n) InputTooLong
+    ∷ fault_if (ltb max_inputs (terminals ^ n)) TooManyInputs
     ∷ []

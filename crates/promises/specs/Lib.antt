@@ -4,4 +4,4 @@ pub mod Directions
 pub mod Places
 pub mod Inputs
 pub mod Lengths
-pub mod contracts
+pub mod inner

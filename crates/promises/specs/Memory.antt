@@ -4,6 +4,6 @@ use Rattle.std.proofs.Math.Option.{Option, none, some}
 use Rattle.answer.specs.declared.Error.{Error}
 
 -- by whether a call is refused: what was there, or new words in front of what was there
-abbrev pub lentBack : Option Error → List ℕ → List ℕ → List ℕ
-lentBack (some e) new old = old
-lentBack none new old = new ++ drop (length new) old
+abbrev pub lent_back : Option Error → List ℕ → List ℕ → List ℕ
+lent_back (some e) new old = old
+lent_back none new old = new ++ drop (length new) old

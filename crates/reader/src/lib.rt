@@ -1,7 +1,7 @@
 // Reading an encoded grammar: its first fault, or its sizes.
 ghost use Rattle.std.specs.Prelude.{◌≡◌, drop};
 ghost use Rattle.grammar.specs.Encoding.{declared_by};
-ghost use Rattle.grammar.specs.Reading.{stepped, finished, fresh, scan, isWithin, reading};
+ghost use Rattle.grammar.specs.Reading.{stepped, finished, fresh, scan, is_within, reading};
 
 use answer::Error;
 use grammar::limits::{NONTERMINALS, TERMINALS, WORDS};
@@ -67,7 +67,7 @@ fn read_rules(words: &[u32], sizes: Sizes) -> Reading
 }
 
 fn within(number: u32, limit: u32) -> bool
-    ensures { result ≡ isWithin number limit }
+    ensures { result ≡ is_within number limit }
 {
     if number == 0 {
         return false;

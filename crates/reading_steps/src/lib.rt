@@ -1,6 +1,6 @@
 // What one word does to the reading of an encoded grammar: whether it is allowed there and in range, and what state comes next.
 ghost use Rattle.std.specs.Prelude.{◌≡◌};
-ghost use Rattle.grammar.specs.Reading.{row as row_of, allows as allowsAfter, symbolInRange, in_range, beginsRule, stateAfter, counted as countedOf};
+ghost use Rattle.grammar.specs.Reading.{row as row_of, allows as allows_after, symbol_in_range, in_range, begins_rule, state_after, counted as counted_of};
 
 use answer::Error;
 use grammar::limits::RULES;
@@ -28,7 +28,7 @@ pub fn row(
 }
 
 pub fn allows(word: Word, state: State) -> bool
-    ensures { result ≡ allowsAfter word state }
+    ensures { result ≡ allows_after word state }
 {
     match word {
         Word::Rule(_) => row(state, true, false, true, true, false),
@@ -45,7 +45,7 @@ pub fn allows(word: Word, state: State) -> bool
 }
 
 fn symbol_in_range(symbol: Symbol, sizes: Sizes) -> bool
-    ensures { result ≡ symbolInRange symbol sizes }
+    ensures { result ≡ symbol_in_range symbol sizes }
 {
     match symbol {
         Symbol::Terminal(number) => number < sizes.terminals,
@@ -71,7 +71,7 @@ pub fn in_range(word: Word, sizes: Sizes) -> bool
 }
 
 pub fn begins_rule(word: Word) -> bool
-    ensures { result ≡ beginsRule word }
+    ensures { result ≡ begins_rule word }
 {
     match word {
         Word::Rule(_) => true,
@@ -88,7 +88,7 @@ pub fn begins_rule(word: Word) -> bool
 }
 
 pub fn after(word: Word, state: State) -> State
-    ensures { result ≡ stateAfter word state }
+    ensures { result ≡ state_after word state }
 {
     match word {
         Word::Rule(_) => State::Opened,
@@ -106,7 +106,7 @@ pub fn after(word: Word, state: State) -> State
 
 // The progress with one rule more, where there is room for it.
 pub fn counted(state: State, sizes: Sizes, at: usize) -> Step
-    ensures { result ≡ countedOf state sizes at }
+    ensures { result ≡ counted_of state sizes at }
 {
     let rules = sizes.rules;
     if RULES <= rules {

@@ -6,88 +6,88 @@ use mathlib.Core.Option.{Option, none, some}
 use Prim.Native.Nat.{ℕ, ◌≤◌, ◌<◌}
 use lib.ListN.{length, drop}
 use borrow.Author.Tests.{lt-ltb, le-ltb}
-use Rattle.answer.proofs.Apart.{refused-ne-passed}
+use Rattle.answer.proofs.Apart.{refused_ne_passed}
 use Rattle.answer.specs.declared.Error.{Error}
 use Rattle.answer.specs.Numbers.{coded}
-use Rattle.answer.specs.Faults.{refusedOr}
-use Rattle.answer.proofs.Faults.{none-some, each_none}
+use Rattle.answer.specs.Faults.{refused_or}
+use Rattle.answer.proofs.Faults.{none_some, each_none}
 use Rattle.answer.specs.declared.Answer.{Answer}
 use Rattle.answer.specs.declared.Answer.TheVariants.{Refused, Passed}
 use Rattle.grammar.specs.Syntax.{Grammar}
-use Rattle.grammar.specs.Encoding.{grammarOf}
-use Rattle.grammar.specs.contracts.Starts.{ruleStarts}
+use Rattle.grammar.specs.Encoding.{grammar_of}
+use Rattle.grammar.specs.inner.Starts.{rule_starts}
 use Rattle.grammar.specs.Reading.{reading}
 use Rattle.grammar.specs.declared.reading.Sizes.{Sizes}
 use Rattle.grammar.specs.declared.reading.Reading.TheVariants.{Read}
-use Rattle.encoding.specs.Encode.{sizesOf, Encodes}
-use Rattle.encoding.proofs.Decoding.{encodes-grammar}
-use Rattle.encoding.proofs.ReadingEncodes.{read-encodes, encodes-read}
+use Rattle.encoding.specs.Encode.{sizes_of, Encodes}
+use Rattle.encoding.proofs.Decoding.{encodes_grammar}
+use Rattle.encoding.proofs.ReadingEncodes.{read_encodes, encodes_read}
 use Rattle.lookahead.specs.declared.Lookahead.{Lookahead}
 use Rattle.lookahead.specs.declared.Lookahead.TheVariants.{One, Two}
 use Rattle.lookahead.specs.Lookaheads.{tokens}
-use Rattle.lookahead.specs.contracts.Lookaheads.{alphabet}
-use Rattle.lookahead.proofs.Strings.{some-token}
+use Rattle.lookahead.specs.inner.Lookaheads.{alphabet}
+use Rattle.lookahead.proofs.Strings.{some_token}
 use Rattle.admission.specs.Admission.{Fits, admission}
 use Rattle.admission.proofs.Admitted.{admitted}
-use Rattle.semantics.specs.LeftRecursion.{NoLeftRecursion, lowestLeftRecursive}
-use Rattle.semantics.specs.Productive.{lowestUnproductive}
+use Rattle.semantics.specs.LeftRecursion.{NoLeftRecursion, lowest_left_recursive}
+use Rattle.semantics.specs.Productive.{lowest_unproductive}
 use Rattle.semantics.specs.Claims.{clashes}
 use Rattle.semantics.specs.Predictive.{Predictive}
 use Rattle.semantics.proofs.Theorems.{theorems}
 use Rattle.families.specs.declared.Finding.{Finding}
 use Rattle.families.specs.declared.Finding.TheVariants as finding
-use Rattle.families.proofs.FewTerminals.{few-terminals}
+use Rattle.families.proofs.FewTerminals.{few_terminals_lem}
 use Rattle.table.specs.declared.Found.{Found}
-use Rattle.table_promises.specs.Layout.{tableWords, tableRoom}
-use Rattle.table.specs.contracts.Entries.{entriesOf}
-use Rattle.families.specs.Analysis.{setsFault, findingOf}
-use Rattle.families.specs.contracts.Analysis.{startsIf}
-use Rattle.families.proofs.Findings.{read_some, told-passed, told-refused}
-use Rattle.table_promises.specs.Analysis.{clashFault, grammarFaults, fault}
-use Rattle.table.specs.contracts.Analysis.{entriesIf, foundOf}
-use Rattle.table_promises.specs.Conflicts.{firstClash}
+use Rattle.table_promises.specs.Layout.{table_words, table_room}
+use Rattle.table.specs.inner.Entries.{entries_of}
+use Rattle.families.specs.Analysis.{sets_fault, finding_of}
+use Rattle.families.specs.inner.Analysis.{starts_if}
+use Rattle.families.proofs.Findings.{read_some, told_passed, told_refused}
+use Rattle.table_promises.specs.Analysis.{clash_fault, grammar_faults, fault}
+use Rattle.table.specs.inner.Analysis.{entries_if, found_of}
+use Rattle.table_promises.specs.Conflicts.{first_clash}
 use Rattle.table_promises.specs.declared.Conflict.{Conflict}
 use Rattle.table_promises.specs.declared.Conflict.TheVariants.{Absent, At}
-use Rattle.table_promises.proofs.FirstClash.{clash-absent}
-use Rattle.table_promises.proofs.GrammarFaults.{none-sets}
+use Rattle.table_promises.proofs.FirstClash.{clash_absent}
+use Rattle.table_promises.proofs.GrammarFaults.{none_sets}
 use Rattle.promises.specs.Leaving.{lent, Leaves}
-use Rattle.promises.proofs.Leaving.{leaves, leaves_alike, leaves-refused}
-use Rattle.recognizer_promises.specs.Answers.{tableTooShort, checkFault}
-use Rattle.recognizer_promises.specs.contracts.Judging.{EntriesFound}
+use Rattle.promises.proofs.Leaving.{leaves, leaves_alike, leaves_refused}
+use Rattle.recognizer_promises.specs.Answers.{table_too_short, check_fault}
+use Rattle.recognizer_promises.specs.inner.Judging.{EntriesFound}
 use Rattle.recognizer_promises.specs.Properties.{PassedGrammar, Checks}
-use Rattle.promises.proofs.Places.{check-tells, none_left, none-unproductive}
-use Rattle.recognizer_promises.proofs.Words.{least-sets, clash-none, understood}
-use Rattle.recognizer_promises.proofs.Places.{encodes-taken, fault-encoded, places}
+use Rattle.promises.proofs.Places.{check_tells, none_left, none_unproductive}
+use Rattle.recognizer_promises.proofs.Words.{least_sets, clash_none, understood}
+use Rattle.recognizer_promises.proofs.Places.{encodes_taken, fault_encoded, places}
 
-none-clash : (k : Lookahead) (r : Conflict) → clashFault k r ≡ none → r ≡ Absent
-none-clash k Absent e = refl
-none-clash k (At A c) e = absurd (none-some (sym e))
+none_clash : (k : Lookahead) (r : Conflict) → clash_fault k r ≡ none → r ≡ Absent
+none_clash k Absent e = refl
+none_clash k (At A c) e = absurd (none_some (sym e))
 
 -- a grammar that fits has no more terminals than its lookahead allows
-pub fits-few : (k : Lookahead) {words : List ℕ} (G : Grammar) → Encodes words G → Fits k G → G.terminals ≤ alphabet k
-fits-few One G e f = e.limited.fewTerminals
-fits-few Two G e f = f.0
+pub fits_few : (k : Lookahead) {words : List ℕ} (G : Grammar) → Encodes words G → Fits k G → G.terminals ≤ alphabet k
+fits_few One G e f = e.limited.few_terminals
+fits_few Two G e f = f.0
 
 -- a grammar without a fault passes
-pub passed-fault : (k : Lookahead) (words : List ℕ) → fault k words ≡ none → PassedGrammar k words
+pub passed_fault : (k : Lookahead) (words : List ℕ) → fault k words ≡ none → PassedGrammar k words
 unfolding fault
-passed-fault k words e =
-    let G = grammarOf words in
+passed_fault k words e =
+    let G = grammar_of words in
     let n = tokens k in
-    let f = each_none (grammarFaults k words) e in
+    let f = each_none (grammar_faults k words) e in
     let z = read_some (admission k words) f.0 in
     let t = (admitted k words z.0).0 z.1 in
-    let r = read-encodes words z.0 t.0 in
+    let r = read_encodes words z.0 t.0 in
     let none-clashes : clashes G n ≡ [] =
-    (clash-absent k G (few-terminals k words z.1)).0 (none-clash k (firstClash k G) f.1.1.1.0) in
+    (clash_absent k G (few_terminals_lem k words z.1)).0 (none_clash k (first_clash k G) f.1.1.1.0) in
     record {
       short = r.0;
       grammar = G;
       encodes = r.1;
       fits = t.1;
-      free = (theorems.left-recursion-decided G r.1.formed.scoped).absent.0 (none_left (lowestLeftRecursive G) f.1.0);
-      productive = (theorems.productive-decided G n).absent.0 (none-unproductive (lowestUnproductive G n) f.1.1.0);
-      clashless = λ A x c. Memᴰ.not-nil (rw none-clashes at (((least-sets G r.1 n).clash A x).1 c));
+      free = (theorems.left_recursion_decided G r.1.formed.scoped).absent.0 (none_left (lowest_left_recursive G) f.1.0);
+      productive = (theorems.productive_decided G n).absent.0 (none_unproductive (lowest_unproductive G n) f.1.1.0);
+      clashless = λ A x c. Memᴰ.not-nil (rw none-clashes at (((least_sets G r.1 n).clash A x).1 c));
     }
 
 -- a grammar that passes is the one that is read, so its promises are about that
@@ -95,124 +95,124 @@ module _ {k : Lookahead} (words : List ℕ) (p : PassedGrammar k words) where
   abbrev n : ℕ
   n = tokens k
 
-  same-grammar : p.grammar ≡ grammarOf words
-  same-grammar = sym (encodes-grammar words p.grammar p.encodes)
+  same_grammar : p.grammar ≡ grammar_of words
+  same_grammar = sym (encodes_grammar words p.grammar p.encodes)
 
-  pub passed-encodes : Encodes words (grammarOf words)
-  passed-encodes = rw (← same-grammar) p.encodes
+  pub passed_encodes : Encodes words (grammar_of words)
+  passed_encodes = rw (← same_grammar) p.encodes
 
-  passed-fits : Fits k (grammarOf words)
-  passed-fits = rw (← same-grammar) p.fits
+  passed_fits : Fits k (grammar_of words)
+  passed_fits = rw (← same_grammar) p.fits
 
-  pub passed-free : NoLeftRecursion (grammarOf words)
-  passed-free = rw (← same-grammar) p.free
+  pub passed_free : NoLeftRecursion (grammar_of words)
+  passed_free = rw (← same_grammar) p.free
 
-  pub no-clashes : clashes (grammarOf words) n ≡ []
-  no-clashes = rw (← same-grammar) (clash-none p.grammar p.encodes k p.clashless)
+  pub no_clashes : clashes (grammar_of words) n ≡ []
+  no_clashes = rw (← same_grammar) (clash_none p.grammar p.encodes k p.clashless)
 
-  pub not-left-recursive : lowestLeftRecursive (grammarOf words) ≡ none
-  not-left-recursive = (theorems.left-recursion-decided (grammarOf words) passed-encodes.formed.scoped).absent.1 passed-free
+  pub not_left_recursive : lowest_left_recursive (grammar_of words) ≡ none
+  not_left_recursive = (theorems.left_recursion_decided (grammar_of words) passed_encodes.formed.scoped).absent.1 passed_free
 
-  pub passed-predictive : Predictive (grammarOf words) n
-  passed-predictive =
-      (theorems.passed (grammarOf words) n (some-token k) passed-encodes.formed passed-encodes.limited.someNonterminal).0
-      (not-left-recursive, no-clashes)
+  pub passed_predictive : Predictive (grammar_of words) n
+  passed_predictive =
+      (theorems.passed (grammar_of words) n (some_token k) passed_encodes.formed passed_encodes.limited.some_nonterminal).0
+      (not_left_recursive, no_clashes)
 
-  pub all-productive : lowestUnproductive (grammarOf words) n ≡ none
-  all-productive = (theorems.productive-decided (grammarOf words) n).absent.1 (rw (← same-grammar) p.productive)
+  pub all_productive : lowest_unproductive (grammar_of words) n ≡ none
+  all_productive = (theorems.productive_decided (grammar_of words) n).absent.1 (rw (← same_grammar) p.productive)
 
-  pub passed-read : reading words ≡ Read (sizesOf (grammarOf words))
-  passed-read = encodes-read words (grammarOf words) p.short passed-encodes
+  pub passed_read : reading words ≡ Read (sizes_of (grammar_of words))
+  passed_read = encodes_read words (grammar_of words) p.short passed_encodes
 
   -- and has no fault
-  pub fault-passed : fault k words ≡ none
+  pub fault_passed : fault k words ≡ none
   unfolding fault
-  fault-passed =
-      let few = fits-few k (grammarOf words) passed-encodes passed-fits in
+  fault_passed =
+      let few = fits_few k (grammar_of words) passed_encodes passed_fits in
       rw (
-        encodes-taken k words (grammarOf words) p.short passed-encodes passed-fits,
-        not-left-recursive,
-        all-productive,
-        (clash-absent k (grammarOf words) few).1 no-clashes,
+        encodes_taken k words (grammar_of words) p.short passed_encodes passed_fits,
+        not_left_recursive,
+        all_productive,
+        (clash_absent k (grammar_of words) few).1 no_clashes,
       )
 
 -- with a table that is long enough only the grammar's faults are left
-pub check-fault-long : (k : Lookahead) (n : ℕ) (words : List ℕ) → tableRoom k ≤ n → checkFault k n words ≡ fault k words
-unfolding checkFault fault
-check-fault-long k n words h = rw (le-ltb n (tableRoom k) h)
+pub check_fault_long : (k : Lookahead) (n : ℕ) (words : List ℕ) → table_room k ≤ n → check_fault k n words ≡ fault k words
+unfolding check_fault fault
+check_fault_long k n words h = rw (le-ltb n (table_room k) h)
 
-refused-passed : (f : Option Error) → refusedOr f Passed ≡ Passed → f ≡ none
-refused-passed none e = refl
-refused-passed (some x) e = absurd (refused-ne-passed e)
+refused_passed : (f : Option Error) → refused_or f Passed ≡ Passed → f ≡ none
+refused_passed none e = refl
+refused_passed (some x) e = absurd (refused_ne_passed e)
 
 -- a table that is too short is reported as 1, and with two tokens of lookahead as 17
-pub short-told : ((coded (tableTooShort One)).code ≡ 1) × ((coded (tableTooShort Two)).code ≡ 17)
-short-told = (refl, refl)
+pub short_told : ((coded (table_too_short One)).code ≡ 1) × ((coded (table_too_short Two)).code ≡ 17)
+short_told = (refl, refl)
 
-short-first : (k : Lookahead) (table : ℕ) (words : List ℕ) → table < tableRoom k → checkFault k table words ≡ some (tableTooShort k)
-unfolding checkFault
-short-first k table words h = rw (lt-ltb table (tableRoom k) h)
+short_first : (k : Lookahead) (table : ℕ) (words : List ℕ) → table < table_room k → check_fault k table words ≡ some (table_too_short k)
+unfolding check_fault
+short_first k table words h = rw (lt-ltb table (table_room k) h)
 
 module _ (k : Lookahead) where
   -- the promise from the answer and the table
   checks : {words table table' : List ℕ} {r : Answer}
-      → Leaves (checkFault k (length table) words) Passed r (lent table (tableWords k (grammarOf words)) table' ∷ []) → Checks k words table r table'
+      → Leaves (check_fault k (length table) words) Passed r (lent table (table_words k (grammar_of words)) table' ∷ []) → Checks k words table r table'
   checks {words} {table} l = record {
     understood = understood k words;
     leaves = l;
     passed = λ long.
-        let f = check-fault-long k (length table) words long in (
-          λ p. passed-fault k words (sym f ∙ refused-passed (checkFault k (length table) words) (sym l.answer ∙ p)),
-          λ p. l.answer ∙ rw (f, fault-passed words p),
+        let f = check_fault_long k (length table) words long in (
+          λ p. passed_fault k words (sym f ∙ refused_passed (check_fault k (length table) words) (sym l.answer ∙ p)),
+          λ p. l.answer ∙ rw (f, fault_passed words p),
         );
     places = λ long short G e fits.
-        places k G e.formed.scoped (fits-few k G e fits)
-        (check-tells _ (l.answer ∙ ap (λ f. refusedOr f Passed) (check-fault-long k (length table) words long ∙ fault-encoded k words G short e fits)));
+        places k G e.formed.scoped (fits_few k G e fits)
+        (check_tells _ (l.answer ∙ ap (λ f. refused_or f Passed) (check_fault_long k (length table) words long ∙ fault_encoded k words G short e fits)));
   }
 
-  pub check-short : {words table : List ℕ} → length table < tableRoom k → Checks k words table (Refused (tableTooShort k)) table
-  check-short {words} {table} h = checks (leaves-refused first (refl, tt))
+  pub check_short : {words table : List ℕ} → length table < table_room k → Checks k words table (Refused (table_too_short k)) table
+  check_short {words} {table} h = checks (leaves_refused first (refl, tt))
     where
-      first : checkFault k (length table) words ≡ some (tableTooShort k)
-      first = short-first k (length table) words h
+      first : check_fault k (length table) words ≡ some (table_too_short k)
+      first = short_first k (length table) words h
 
 -- what is found of an encoded grammar tells
 pub record Told (k : Lookahead) (words : List ℕ) (f : Finding) (starts entries : List ℕ) : Type 0 where
-  pub finding : f ≡ findingOf (fault k words) (admission k words)
-  pub begins : starts ≡ startsIf (setsFault k words) (ruleStarts words)
-  pub entered : entries ≡ entriesIf (fault k words) (entriesOf k (grammarOf words))
+  pub finding : f ≡ finding_of (fault k words) (admission k words)
+  pub begins : starts ≡ starts_if (sets_fault k words) (rule_starts words)
+  pub entered : entries ≡ entries_if (fault k words) (entries_of k (grammar_of words))
 
-pub told : (k : Lookahead) (words : List ℕ) {r : Found} → r ≡ foundOf k words → Told k words r.finding r.starts r.entries
-unfolding foundOf
+pub told : (k : Lookahead) (words : List ℕ) {r : Found} → r ≡ found_of k words → Told k words r.finding r.starts r.entries
+unfolding found_of
 told k words e = record { finding = ap (λ y. y.finding) e; begins = ap (λ y. y.starts) e; entered = ap (λ y. y.entries) e }
 
 module _ {k : Lookahead} {words : List ℕ} {f : Finding} {starts entries : List ℕ} (t : Told k words f starts entries) where
   -- where no fault is found, the sizes, the starts of the rules and the entries are
   pub found : {z : Sizes} → f ≡ finding.Passed z → EntriesFound k words z starts entries
   found q =
-      let m = told-passed (fault k words) (admission k words) (sym t.finding ∙ q) in
+      let m = told_passed (fault k words) (admission k words) (sym t.finding ∙ q) in
       record {
         taken = m.1;
         faultless = m.0;
-        begins = t.begins ∙ ap (λ y. startsIf y (ruleStarts words)) (none-sets k words m.0);
-        entered = t.entered ∙ ap (λ y. entriesIf y (entriesOf k (grammarOf words))) m.0;
+        begins = t.begins ∙ ap (λ y. starts_if y (rule_starts words)) (none_sets k words m.0);
+        entered = t.entered ∙ ap (λ y. entries_if y (entries_of k (grammar_of words))) m.0;
       }
 
-  pub found-fault : {x : Error} → f ≡ finding.Refused x → fault k words ≡ some x
+  pub found_fault : {x : Error} → f ≡ finding.Refused x → fault k words ≡ some x
   unfolding fault
-  found-fault q = told-refused (fault k words) (admission k words) (λ y e. rw e) (sym t.finding ∙ q)
+  found_fault q = told_refused (fault k words) (admission k words) (λ y e. rw e) (sym t.finding ∙ q)
 
-pub check-passed : {k : Lookahead} (words table : List ℕ) → tableRoom k ≤ length table → fault k words ≡ none → {table' : List ℕ}
-    → table' ≡ tableWords k (grammarOf words) ++ drop (length (tableWords k (grammarOf words))) table → Checks k words table Passed table'
-check-passed {k} words table long f l = checks k (leaves_alike (check-fault-long k (length table) words long ∙ f) (leaves refl (l, tt)))
+pub check_passed : {k : Lookahead} (words table : List ℕ) → table_room k ≤ length table → fault k words ≡ none → {table' : List ℕ}
+    → table' ≡ table_words k (grammar_of words) ++ drop (length (table_words k (grammar_of words))) table → Checks k words table Passed table'
+check_passed {k} words table long f l = checks k (leaves_alike (check_fault_long k (length table) words long ∙ f) (leaves refl (l, tt)))
 
-pub check-refused : {k : Lookahead} (words table : List ℕ) → tableRoom k ≤ length table → {x : Error} → fault k words ≡ some x
+pub check_refused : {k : Lookahead} (words table : List ℕ) → table_room k ≤ length table → {x : Error} → fault k words ≡ some x
     → Checks k words table (Refused x) table
-check-refused {k} words table long f = checks k (leaves-refused (check-fault-long k (length table) words long ∙ f) (refl, tt))
+check_refused {k} words table long f = checks k (leaves_refused (check_fault_long k (length table) words long ∙ f) (refl, tt))
 
 -- a grammar without a fault is found to pass
-pub found_passed : (k : Lookahead) (words : List ℕ) → fault k words ≡ none → (z : Sizes) × ((foundOf k words).finding ≡ finding.Passed z)
-unfolding fault foundOf
+pub found_passed : (k : Lookahead) (words : List ℕ) → fault k words ≡ none → (z : Sizes) × ((found_of k words).finding ≡ finding.Passed z)
+unfolding fault found_of
 found_passed k words e =
-    let z = read_some (admission k words) (each_none (grammarFaults k words) e).0 in
-    (z.0, ap (λ o. findingOf o (admission k words)) e ∙ ap (findingOf none) z.1)
+    let z = read_some (admission k words) (each_none (grammar_faults k words) e).0 in
+    (z.0, ap (λ o. finding_of o (admission k words)) e ∙ ap (finding_of none) z.1)

@@ -5,7 +5,7 @@ use Prim.Native.Nat.{ℕ}
 use Rattle.answer.specs.declared.Answer.{Answer}
 use Rattle.lookahead.specs.declared.Lookahead.{Lookahead}
 use Rattle.promises.specs.Directions.{DirectionsIgnored}
-use Rattle.promises.proofs.Directions.{pair_same, directions-ignored}
+use Rattle.promises.proofs.Directions.{pair_same, directions_ignored}
 use Rattle.recognizer_promises.specs.Properties.{Judges}
 
 -- the answer and both memories
@@ -21,5 +21,5 @@ module _ (k : Lookahead) (words table memo : List ℕ) where
       pair_same (p.leaves.answer ∙ sym q.leaves.answer)
       (pair_same (p.leaves.memory.0 ∙ sym q.leaves.memory.0) (p.leaves.memory.1.0 ∙ sym q.leaves.memory.1.0))
 
-  pub judge-ignores : DirectionsIgnored Promise
-  judge-ignores = directions-ignored Promise settled
+  pub judge_ignores : DirectionsIgnored Promise
+  judge_ignores = directions_ignored Promise settled

@@ -8,106 +8,106 @@ use lib.ListN.{length}
 use borrow.Author.Tests.{lt-ltb, le-ltb, ltb-false}
 use Rattle.answer.specs.declared.Error.{Error}
 use Rattle.answer.specs.declared.Error.TheVariants.{MemoTooShort, InputTooLong}
-use Rattle.answer.specs.Faults.{faultIf, firstFault}
-use Rattle.answer.proofs.Faults.{Faultless, none-some, fault-none, each_none, first-nested}
-use Rattle.grammar.specs.Limits.{maxMemoEntries, maxTokens}
-use Rattle.grammar.specs.Encoding.{grammarOf}
+use Rattle.answer.specs.Faults.{fault_if, first_fault}
+use Rattle.answer.proofs.Faults.{Faultless, none_some, fault_none, each_none, first_nested}
+use Rattle.grammar.specs.Limits.{max_memo_entries, max_tokens}
+use Rattle.grammar.specs.Encoding.{grammar_of}
 use Rattle.base.specs.Strings.{Over}
 use Rattle.lookahead.specs.declared.Lookahead.{Lookahead}
-use Rattle.table_promises.specs.Layout.{tableRoom}
-use Rattle.table_promises.specs.Analysis.{grammarFaults, fault}
-use Rattle.event.proofs.Known.{known-absent, absent-known}
+use Rattle.table_promises.specs.Layout.{table_room}
+use Rattle.table_promises.specs.Analysis.{grammar_faults, fault}
+use Rattle.event.proofs.Known.{known_absent, absent_known}
 use Rattle.event.specs.declared.Unknown.{Unknown}
 use Rattle.event.specs.declared.Unknown.TheVariants.{Absent, At}
-use Rattle.event.specs.Unknown.{unknownFrom, unknownFault}
-use Rattle.recognizer_promises.specs.Answers.{tableTooShort, checkFault, judgeFault, inputFaults}
-use Rattle.recognizer_promises.specs.contracts.Judging.{memoFault}
+use Rattle.event.specs.Unknown.{unknown_from, unknown_fault}
+use Rattle.recognizer_promises.specs.Answers.{table_too_short, check_fault, judge_fault, input_faults}
+use Rattle.recognizer_promises.specs.inner.Judging.{memo_fault}
 
 -- the rows of judging, with the grammar's faults as one
-abbrev pub judgeRows : Lookahead → ℕ → ℕ → List ℕ → List ℕ → List (Option Error)
-judgeRows k table memo words input =
-    faultIf (ltb table (tableRoom k)) (tableTooShort k)
-    ∷ faultIf (ltb memo maxMemoEntries) MemoTooShort
+abbrev pub judge_rows : Lookahead → ℕ → ℕ → List ℕ → List ℕ → List (Option Error)
+judge_rows k table memo words input =
+    fault_if (ltb table (table_room k)) (table_too_short k)
+    ∷ fault_if (ltb memo max_memo_entries) MemoTooShort
     ∷ fault k words
-    ∷ inputFaults (grammarOf words).terminals input
+    ∷ input_faults (grammar_of words).terminals input
 
-pub judged-rows : (k : Lookahead) (table memo : ℕ) (words input : List ℕ)
-    → judgeFault k table memo words input ≡ firstFault (judgeRows k table memo words input)
-unfolding judgeFault fault
-judged-rows k table memo words input =
-    first-nested (faultIf (ltb table (tableRoom k)) (tableTooShort k) ∷ faultIf (ltb memo maxMemoEntries) MemoTooShort ∷ []) (grammarFaults k words)
-    (inputFaults (grammarOf words).terminals input)
+pub judged_rows : (k : Lookahead) (table memo : ℕ) (words input : List ℕ)
+    → judge_fault k table memo words input ≡ first_fault (judge_rows k table memo words input)
+unfolding judge_fault fault
+judged_rows k table memo words input =
+    first_nested (fault_if (ltb table (table_room k)) (table_too_short k) ∷ fault_if (ltb memo max_memo_entries) MemoTooShort ∷ []) (grammar_faults k words)
+    (input_faults (grammar_of words).terminals input)
 
 -- with a table that is long enough it is judging in the memo table alone
-pub judge-table-long : (k : Lookahead) (table memo : ℕ) (words input : List ℕ) → tableRoom k ≤ table
-    → judgeFault k table memo words input ≡ memoFault k memo words input
-unfolding judgeFault memoFault
-judge-table-long k table memo words input h = rw (le-ltb table (tableRoom k) h)
+pub judge_table_long : (k : Lookahead) (table memo : ℕ) (words input : List ℕ) → table_room k ≤ table
+    → judge_fault k table memo words input ≡ memo_fault k memo words input
+unfolding judge_fault memo_fault
+judge_table_long k table memo words input h = rw (le-ltb table (table_room k) h)
 
-memo-rows : (k : Lookahead) (memo : ℕ) (words input : List ℕ)
-    → memoFault k memo words input
-    ≡ firstFault (faultIf (ltb memo maxMemoEntries) MemoTooShort ∷ fault k words ∷ inputFaults (grammarOf words).terminals input)
-unfolding memoFault fault
-memo-rows k memo words input =
-    first-nested (faultIf (ltb memo maxMemoEntries) MemoTooShort ∷ []) (grammarFaults k words) (inputFaults (grammarOf words).terminals input)
+memo_rows : (k : Lookahead) (memo : ℕ) (words input : List ℕ)
+    → memo_fault k memo words input
+    ≡ first_fault (fault_if (ltb memo max_memo_entries) MemoTooShort ∷ fault k words ∷ input_faults (grammar_of words).terminals input)
+unfolding memo_fault fault
+memo_rows k memo words input =
+    first_nested (fault_if (ltb memo max_memo_entries) MemoTooShort ∷ []) (grammar_faults k words) (input_faults (grammar_of words).terminals input)
 
-pub memo-fault-short : (k : Lookahead) (words input memo : List ℕ) → length memo < maxMemoEntries → memoFault k (length memo) words input ≡ some MemoTooShort
-unfolding memoFault
-memo-fault-short k words input memo h = rw (lt-ltb (length memo) maxMemoEntries h)
+pub memo_fault_short : (k : Lookahead) (words input memo : List ℕ) → length memo < max_memo_entries → memo_fault k (length memo) words input ≡ some MemoTooShort
+unfolding memo_fault
+memo_fault_short k words input memo h = rw (lt-ltb (length memo) max_memo_entries h)
 
-pub memo-fault-long : (k : Lookahead) (words input memo : List ℕ) → maxMemoEntries ≤ length memo → {f : Option Error} → fault k words ≡ f
-    → memoFault k (length memo) words input ≡ firstFault (f ∷ inputFaults (grammarOf words).terminals input)
-memo-fault-long k words input memo room e = rw (memo-rows k (length memo) words input, le-ltb (length memo) maxMemoEntries room, e)
+pub memo_fault_long : (k : Lookahead) (words input memo : List ℕ) → max_memo_entries ≤ length memo → {f : Option Error} → fault k words ≡ f
+    → memo_fault k (length memo) words input ≡ first_fault (f ∷ input_faults (grammar_of words).terminals input)
+memo_fault_long k words input memo room e = rw (memo_rows k (length memo) words input, le-ltb (length memo) max_memo_entries room, e)
 
 -- an input that is short and known has no fault, and no other input
-pub readable-faultless : (n : ℕ) (input : List ℕ) → length input ≤ maxTokens → Over n input → firstFault (inputFaults n input) ≡ none
-readable-faultless n input short known = rw (le-ltb maxTokens (length input) short, known-absent n 0 input known)
+pub readable_faultless : (n : ℕ) (input : List ℕ) → length input ≤ max_tokens → Over n input → first_fault (input_faults n input) ≡ none
+readable_faultless n input short known = rw (le-ltb max_tokens (length input) short, known_absent n 0 input known)
 
-pub faultless-readable : (n : ℕ) (input : List ℕ) → firstFault (inputFaults n input) ≡ none → (length input ≤ maxTokens) × Over n input
-faultless-readable n input e =
-    let f = each_none (inputFaults n input) e in (
-      ltb-false maxTokens (length input) (fault-none (ltb maxTokens (length input)) InputTooLong f.0),
-      absent-known n 0 input (none-unknown (unknownFrom n 0 input) f.1.0),
+pub faultless_readable : (n : ℕ) (input : List ℕ) → first_fault (input_faults n input) ≡ none → (length input ≤ max_tokens) × Over n input
+faultless_readable n input e =
+    let f = each_none (input_faults n input) e in (
+      ltb-false max_tokens (length input) (fault_none (ltb max_tokens (length input)) InputTooLong f.0),
+      absent_known n 0 input (none_unknown (unknown_from n 0 input) f.1.0),
     )
   where
-    none-unknown : (u : Unknown) → unknownFault u ≡ none → u ≡ Absent
-    none-unknown Absent q = refl
-    none-unknown (At i) q = absurd (none-some (sym q))
+    none_unknown : (u : Unknown) → unknown_fault u ≡ none → u ≡ Absent
+    none_unknown Absent q = refl
+    none_unknown (At i) q = absurd (none_some (sym q))
 
 -- the first fault, by what holds
 module _ (k : Lookahead) (words input table memo : List ℕ) where
   abbrev judged : Option Error
-  judged = judgeFault k (length table) (length memo) words input
+  judged = judge_fault k (length table) (length memo) words input
 
-  pub table-short : length table < tableRoom k → judged ≡ some (tableTooShort k)
-  unfolding judgeFault
-  table-short h = rw (lt-ltb (length table) (tableRoom k) h)
+  pub table_short : length table < table_room k → judged ≡ some (table_too_short k)
+  unfolding judge_fault
+  table_short h = rw (lt-ltb (length table) (table_room k) h)
 
-  module _ (long : tableRoom k ≤ length table) where
-    pub memo-short : length memo < maxMemoEntries → judged ≡ some MemoTooShort
-    unfolding judgeFault
-    memo-short h = rw (le-ltb (length table) (tableRoom k) long, lt-ltb (length memo) maxMemoEntries h)
+  module _ (long : table_room k ≤ length table) where
+    pub memo_short : length memo < max_memo_entries → judged ≡ some MemoTooShort
+    unfolding judge_fault
+    memo_short h = rw (le-ltb (length table) (table_room k) long, lt-ltb (length memo) max_memo_entries h)
 
-    module _ (room : maxMemoEntries ≤ length memo) where
-      pub judge-fault-long : {f : Option Error} → fault k words ≡ f → judged ≡ firstFault (f ∷ inputFaults (grammarOf words).terminals input)
-      judge-fault-long e =
-          rw (judged-rows k (length table) (length memo) words input, le-ltb (length table) (tableRoom k) long, le-ltb (length memo) maxMemoEntries room, e)
+    module _ (room : max_memo_entries ≤ length memo) where
+      pub judge_fault_long : {f : Option Error} → fault k words ≡ f → judged ≡ first_fault (f ∷ input_faults (grammar_of words).terminals input)
+      judge_fault_long e =
+          rw (judged_rows k (length table) (length memo) words input, le-ltb (length table) (table_room k) long, le-ltb (length memo) max_memo_entries room, e)
 
-      pub grammar-fault : {x : Error} → fault k words ≡ some x → judged ≡ some x
-      grammar-fault e = judge-fault-long e
+      pub grammar_fault : {x : Error} → fault k words ≡ some x → judged ≡ some x
+      grammar_fault e = judge_fault_long e
 
-      pub input-fault : {f : Option Error} → fault k words ≡ none → firstFault (inputFaults (grammarOf words).terminals input) ≡ f → judged ≡ f
-      input-fault passed e = judge-fault-long passed ∙ e
+      pub input_fault : {f : Option Error} → fault k words ≡ none → first_fault (input_faults (grammar_of words).terminals input) ≡ f → judged ≡ f
+      input_fault passed e = judge_fault_long passed ∙ e
 
-module _ (k : Lookahead) (words input : List ℕ) (table memo : ℕ) (e : judgeFault k table memo words input ≡ none) where
-  each : Faultless (judgeRows k table memo words input)
-  each = each_none (judgeRows k table memo words input) (sym (judged-rows k table memo words input) ∙ e)
+module _ (k : Lookahead) (words input : List ℕ) (table memo : ℕ) (e : judge_fault k table memo words input ≡ none) where
+  each : Faultless (judge_rows k table memo words input)
+  each = each_none (judge_rows k table memo words input) (sym (judged_rows k table memo words input) ∙ e)
 
   -- what is judged is checked
-  pub judged-checked : checkFault k table words ≡ none
-  unfolding checkFault fault
-  judged-checked = rw each.0 each.1.1.0
+  pub judged_checked : check_fault k table words ≡ none
+  unfolding check_fault fault
+  judged_checked = rw each.0 each.1.1.0
 
   -- and is read and not too long
-  pub judged-readable : (fault k words ≡ none) × (length input ≤ maxTokens)
-  judged-readable = (each.1.1.0, ltb-false maxTokens (length input) (fault-none (ltb maxTokens (length input)) InputTooLong each.1.1.1.0))
+  pub judged_readable : (fault k words ≡ none) × (length input ≤ max_tokens)
+  judged_readable = (each.1.1.0, ltb-false max_tokens (length input) (fault_none (ltb max_tokens (length input)) InputTooLong each.1.1.1.0))

@@ -12,93 +12,93 @@ use Rattle.answer.specs.declared.Error.TheVariants.{TableTooShort, MemoTooShort,
 use Rattle.answer.specs.declared.Calls.{Calls}
 use Rattle.answer.specs.declared.Answer.{Answer}
 use Rattle.answer.specs.declared.Answer.TheVariants.{Refused, Rejected, Accepted}
-use Rattle.answer.specs.Faults.{faultIf, refusedOr}
-use Rattle.answer.proofs.Apart.{refusalNumber}
-use Rattle.answer.proofs.Faults.{OfFault, of-if, first-each}
+use Rattle.answer.specs.Faults.{fault_if, refused_or}
+use Rattle.answer.proofs.Apart.{refusal_number}
+use Rattle.answer.proofs.Faults.{OfFault, of_if, first_each}
 use Rattle.base.specs.Choice.{choose}
-use Rattle.grammar.specs.Limits.{maxTokens, maxTableWords, maxMemoEntries}
-use Rattle.grammar.specs.Encoding.{grammarOf}
+use Rattle.grammar.specs.Limits.{max_tokens, max_table_words, max_memo_entries}
+use Rattle.grammar.specs.Encoding.{grammar_of}
 use Rattle.lookahead.specs.declared.Lookahead.{Lookahead}
 use Rattle.lookahead.specs.declared.Lookahead.TheVariants.{One}
 use Rattle.lookahead.specs.Lookaheads.{tokens}
-use Rattle.semantics.specs.Choices.{tableChoice}
+use Rattle.semantics.specs.Choices.{table_choice}
 use Rattle.semantics.specs.Descent.{accepts}
-use Rattle.inputs.specs.Inputs.{maxInputs}
-use Rattle.table_promises.specs.Layout.{tableRoom}
-use Rattle.table_promises.specs.Analysis.{grammarFaults}
-use Rattle.recognizer_promises.specs.Answers.{tableTooShort, checkFault, inputFaults, judgeFault, calls_of, verdictOf}
+use Rattle.inputs.specs.Inputs.{max_inputs}
+use Rattle.table_promises.specs.Layout.{table_room}
+use Rattle.table_promises.specs.Analysis.{grammar_faults}
+use Rattle.recognizer_promises.specs.Answers.{table_too_short, check_fault, input_faults, judge_fault, calls_of, verdict_of}
 use Rattle.recognizer_promises.specs.Properties.{Judges}
-use Rattle.promises.specs.Lengths.{lengthFaults}
-use Rattle.recognizer_promises.specs.CostliestInput.{costliestFault}
-use Rattle.recognizer_promises.proofs.GrammarErrors.{GrammarErrors, grammar-each}
-use Rattle.promises.proofs.InputErrors.{InputErrors, input-each}
+use Rattle.promises.specs.Lengths.{length_faults}
+use Rattle.recognizer_promises.specs.CostliestInput.{costliest_fault}
+use Rattle.recognizer_promises.proofs.GrammarErrors.{GrammarErrors, grammar_each}
+use Rattle.promises.proofs.InputErrors.{InputErrors, input_each}
 
 -- the errors of judging
 pub record JudgeErrors (k : Lookahead) (words : List ℕ) (P : Error → Type 0) : Type 0 where
-  pub shortTable : P (tableTooShort k)
-  pub shortMemo : P MemoTooShort
+  pub short_table : P (table_too_short k)
+  pub short_memo : P MemoTooShort
   pub grammar : GrammarErrors k words P
   pub input : InputErrors P
 
 module _ {k : Lookahead} {words : List ℕ} {P : Error → Type 0} where
-  pub check-each : P (tableTooShort k) → GrammarErrors k words P → (table : ℕ) → OfFault P (checkFault k table words)
-  unfolding checkFault
-  check-each short each table =
-      first-each P (faultIf (ltb table (tableRoom k)) (tableTooShort k) ∷ grammarFaults k words)
-      (of-if P (ltb table (tableRoom k)) (tableTooShort k) short, λ _. grammar-each words each [] tt)
+  pub check_each : P (table_too_short k) → GrammarErrors k words P → (table : ℕ) → OfFault P (check_fault k table words)
+  unfolding check_fault
+  check_each short each table =
+      first_each P (fault_if (ltb table (table_room k)) (table_too_short k) ∷ grammar_faults k words)
+      (of_if P (ltb table (table_room k)) (table_too_short k) short, λ _. grammar_each words each [] tt)
 
-  pub judge-each : JudgeErrors k words P → (table memo : ℕ) (input : List ℕ) → OfFault P (judgeFault k table memo words input)
-  unfolding judgeFault
-  judge-each each table memo input =
-      let n = (grammarOf words).terminals in
-      first-each P
-      (faultIf (ltb table (tableRoom k)) (tableTooShort k)
-      ∷ faultIf (ltb memo maxMemoEntries) MemoTooShort
-      ∷ grammarFaults k words
-      ++ inputFaults n input) (
-        of-if P (ltb table (tableRoom k)) (tableTooShort k) each.shortTable,
+  pub judge_each : JudgeErrors k words P → (table memo : ℕ) (input : List ℕ) → OfFault P (judge_fault k table memo words input)
+  unfolding judge_fault
+  judge_each each table memo input =
+      let n = (grammar_of words).terminals in
+      first_each P
+      (fault_if (ltb table (table_room k)) (table_too_short k)
+      ∷ fault_if (ltb memo max_memo_entries) MemoTooShort
+      ∷ grammar_faults k words
+      ++ input_faults n input) (
+        of_if P (ltb table (table_room k)) (table_too_short k) each.short_table,
         λ _. (
-          of-if P (ltb memo maxMemoEntries) MemoTooShort each.shortMemo,
-          λ _. grammar-each words each.grammar (inputFaults n input) (input-each each.input maxTokens n input (omega arith)),
+          of_if P (ltb memo max_memo_entries) MemoTooShort each.short_memo,
+          λ _. grammar_each words each.grammar (input_faults n input) (input_each each.input max_tokens n input (omega arith)),
         ),
       )
 
   -- a judgement that is a refusal
-  pub refused-each : JudgeErrors k words P → {input table memo table' memo' : List ℕ} {a : Answer}
+  pub refused_each : JudgeErrors k words P → {input table memo table' memo' : List ℕ} {a : Answer}
       → Judges k words input table memo a table' memo' → (x : Error)
       → a ≡ Refused x → P x
-  unfolding verdictOf
-  refused-each each {input} {table} {memo} j x e =
-      go (judgeFault k (length table) (length memo) words input) (judge-each each (length table) (length memo) input)
-      (accepts (grammarOf words) (tableChoice (grammarOf words) (tokens k) input) input) (sym j.leaves.answer ∙ e)
+  unfolding verdict_of
+  refused_each each {input} {table} {memo} j x e =
+      go (judge_fault k (length table) (length memo) words input) (judge_each each (length table) (length memo) input)
+      (accepts (grammar_of words) (table_choice (grammar_of words) (tokens k) input) input) (sym j.leaves.answer ∙ e)
     where
       c : Calls
-      c = calls_of k (grammarOf words) input
+      c = calls_of k (grammar_of words) input
 
-      go : (f : Option Error) → OfFault P f → (b : Bool) → refusedOr f (choose b (Accepted c) (Rejected c)) ≡ Refused x → P x
-      go none h true q = absurd (omega (arith, ap refusalNumber q))
-      go none h false q = absurd (omega (arith, ap refusalNumber q))
+      go : (f : Option Error) → OfFault P f → (b : Bool) → refused_or f (choose b (Accepted c) (Rejected c)) ≡ Refused x → P x
+      go none h true q = absurd (omega (arith, ap refusal_number q))
+      go none h false q = absurd (omega (arith, ap refusal_number q))
       go (some y) h b q = let z : y ≡ x = cc in rw (← z) (h y refl)
 
-pub costliest-each : {words : List ℕ} {P : Error → Type 0} → JudgeErrors One words P → P BufferTooShort → P TooManyInputs → (log table memo k : ℕ)
-    → OfFault P (costliestFault log table memo words k)
-unfolding costliestFault
-costliest-each {words} {P} each short many log table memo k =
-    let n = (grammarOf words).terminals in
-    first-each P
-    (faultIf (ltb table maxTableWords) TableTooShort
-    ∷ faultIf (ltb memo maxMemoEntries) MemoTooShort
-    ∷ faultIf (ltb log maxTokens) BufferTooShort
-    ∷ grammarFaults One words
-    ++ lengthFaults n k) (
-      of-if P (ltb table maxTableWords) TableTooShort each.shortTable,
+pub costliest_each : {words : List ℕ} {P : Error → Type 0} → JudgeErrors One words P → P BufferTooShort → P TooManyInputs → (log table memo k : ℕ)
+    → OfFault P (costliest_fault log table memo words k)
+unfolding costliest_fault
+costliest_each {words} {P} each short many log table memo k =
+    let n = (grammar_of words).terminals in
+    first_each P
+    (fault_if (ltb table max_table_words) TableTooShort
+    ∷ fault_if (ltb memo max_memo_entries) MemoTooShort
+    ∷ fault_if (ltb log max_tokens) BufferTooShort
+    ∷ grammar_faults One words
+    ++ length_faults n k) (
+      of_if P (ltb table max_table_words) TableTooShort each.short_table,
       λ _. (
-        of-if P (ltb memo maxMemoEntries) MemoTooShort each.shortMemo,
+        of_if P (ltb memo max_memo_entries) MemoTooShort each.short_memo,
         λ _. (
-          of-if P (ltb log maxTokens) BufferTooShort short,
-          λ _. grammar-each words each.grammar (lengthFaults n k) (
-            of-if P (ltb maxTokens k) InputTooLong each.input.tooLong,
-            λ _. (of-if P (ltb maxInputs (n ^ k)) TooManyInputs many, λ _. tt),
+          of_if P (ltb log max_tokens) BufferTooShort short,
+          λ _. grammar_each words each.grammar (length_faults n k) (
+            of_if P (ltb max_tokens k) InputTooLong each.input.too_long,
+            λ _. (of_if P (ltb max_inputs (n ^ k)) TooManyInputs many, λ _. tt),
           ),
         ),
       ),

@@ -7,7 +7,7 @@ use Rattle.grammar.specs.Syntax.{Body, Rule, Grammar}
 use Rattle.base.specs.Rounds.{NumberSet, ◌⊆ᵇ◌}
 use Rattle.lookahead.specs.declared.Lookahead.{Lookahead}
 use Rattle.lookahead.specs.Lookaheads.{tokens}
-use Rattle.semantics.specs.LeftRecursion.{nullStep, nullable}
+use Rattle.semantics.specs.LeftRecursion.{null_step, nullable}
 use Rattle.semantics.specs.Families.{Short, FirstOf, FirstBody, Strung, Meeting, FirstClosed, FollowClosed, FollowStrung, Claims}
 use Rattle.semantics.specs.FirstFollow.{First, Follow}
 use Rattle.semantics.specs.Claims.{table_of}
@@ -26,12 +26,12 @@ ClaimsAt k G = Claims G (tokens k) (First G (tokens k)) (Follow G (tokens k))
 -- need not be believed: nullable (nullable-closed, nullable-least); First (first-closed, first-least); Follow (follow-closed, follow-least);
 -- table_of (claimed, unclaimed)
 pub record LeastFamilies (k : Lookahead) (G : Grammar) : Type 0 where
-  pub nullable-closed : nullStep G (nullable G) ⊆ᵇ nullable G
-  pub nullable-least : (s : NumberSet) → nullStep G s ⊆ᵇ s → nullable G ⊆ᵇ s
-  pub first-closed : FirstClosed G (tokens k) (First G (tokens k))
-  pub first-least : (F : ℕ → List ℕ → Bool) → FirstClosed G (tokens k) (λ A x. T (F A x)) → (A : ℕ) (x : List ℕ) → First G (tokens k) A x → T (F A x)
-  pub follow-closed : FollowClosed G (tokens k) (First G (tokens k)) (Follow G (tokens k))
-  pub follow-least : (L : ℕ → List ℕ → Bool) → FollowClosed G (tokens k) (First G (tokens k)) (λ A x. T (L A x))
+  pub nullable_closed : null_step G (nullable G) ⊆ᵇ nullable G
+  pub nullable_least : (s : NumberSet) → null_step G s ⊆ᵇ s → nullable G ⊆ᵇ s
+  pub first_closed : FirstClosed G (tokens k) (First G (tokens k))
+  pub first_least : (F : ℕ → List ℕ → Bool) → FirstClosed G (tokens k) (λ A x. T (F A x)) → (A : ℕ) (x : List ℕ) → First G (tokens k) A x → T (F A x)
+  pub follow_closed : FollowClosed G (tokens k) (First G (tokens k)) (Follow G (tokens k))
+  pub follow_least : (L : ℕ → List ℕ → Bool) → FollowClosed G (tokens k) (First G (tokens k)) (λ A x. T (L A x))
       → (A : ℕ) (x : List ℕ) → Follow G (tokens k) A x → T (L A x)
   pub claimed : Clashless k G → (A : ℕ) (x : List ℕ) (q : ℕ) → (table_of G (tokens k) A x ≡ some q) ↔ ClaimsAt k G q A x
   pub unclaimed : (A : ℕ) (x : List ℕ) → (table_of G (tokens k) A x ≡ none) ↔ ((q : ℕ) → ClaimsAt k G q A x → ⊥)
@@ -40,8 +40,8 @@ pub record LeastFamilies (k : Lookahead) (G : Grammar) : Type 0 where
 pub record StrungFamilies (G : Grammar) : Type 0 where
   pub first : (X : Symbol) (b : Body) (x : List ℕ)
       → FirstBody 1 (First G 1) (X ∷ b) x ↔ Strung (FirstOf 1 (First G 1) X) (FirstBody 1 (First G 1) b) x
-  pub follow-closed : FollowStrung G (First G 1) (Follow G 1)
-  pub follow-least : (L : ℕ → List ℕ → Bool) → Short 1 (λ A x. T (L A x)) → FollowStrung G (First G 1) (λ A x. T (L A x))
+  pub follow_closed : FollowStrung G (First G 1) (Follow G 1)
+  pub follow_least : (L : ℕ → List ℕ → Bool) → Short 1 (λ A x. T (L A x)) → FollowStrung G (First G 1) (λ A x. T (L A x))
       → (A : ℕ) (x : List ℕ) → Follow G 1 A x → T (L A x)
   pub claims : (q A : ℕ) (x : List ℕ) → Claims G 1 (First G 1) (Follow G 1) q A x
       ↔ ((r : Rule) × (get_elem? G.rules q ≡ some r) × (r.head ≡ A) × Strung (Meeting G 1 (First G 1) r) (Follow G 1 A) x)

@@ -5,4 +5,4 @@ pub mod Memory
 pub mod Properties
 pub mod CostliestInput
 pub mod Costliest
-pub mod contracts
+pub mod inner

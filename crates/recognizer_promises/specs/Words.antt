@@ -6,10 +6,10 @@ use Rattle.encoding.specs.Faithful.{FaithfulReading}
 use Rattle.lookahead.specs.declared.Lookahead.{Lookahead}
 use Rattle.lookahead.specs.declared.Lookahead.TheVariants.{One}
 use Rattle.admission.specs.Diagnosis.{Diagnosed}
-use Rattle.table_promises.specs.Layout.{tableWords, tableRoom}
+use Rattle.table_promises.specs.Layout.{table_words, table_room}
 use Rattle.recognizer_promises.specs.LeastFamilies.{LeastFamilies, StrungFamilies}
 
--- need not be believed: reading, grammarOf (faithful); admission (admits)
+-- need not be believed: reading, grammar_of (faithful); admission (admits)
 pub record Understood (k : Lookahead) (words : List ℕ) : Type 0 where
   -- the refusals 3 to 7, and the grammar of the words, are reported without the reading that finds them
   pub faithful : FaithfulReading words
@@ -18,4 +18,4 @@ pub record Understood (k : Lookahead) (words : List ℕ) : Type 0 where
   pub least : (G : Grammar) → Encodes words G → LeastFamilies k G
   pub strung : k ≡ One → (G : Grammar) → Encodes words G → StrungFamilies G
   -- its table is no longer than the memory that is asked for
-  pub short : (G : Grammar) → Encodes words G → length (tableWords k G) ≤ tableRoom k
+  pub short : (G : Grammar) → Encodes words G → length (table_words k G) ≤ table_room k

@@ -1,8 +1,8 @@
 // The descent: calling a nonterminal at a place and running a body call one another in turn.
 ghost use Rattle.std.specs.Prelude.{◌≡◌, ◌≤◌, get_or};
-ghost use Rattle.grammar.specs.Limits.{maxTokens};
-ghost use Rattle.descent_arrays.specs.contracts.Arrays.{choiceAt};
-ghost use Rattle.recursive_descent_promises.specs.contracts.Descent.{ChoiceGiven, CallRequires, CallEnsures, RunRequires, RunEnsures};
+ghost use Rattle.grammar.specs.Limits.{max_tokens};
+ghost use Rattle.descent_arrays.specs.inner.Arrays.{choice_at};
+ghost use Rattle.recursive_descent_promises.specs.inner.Descent.{ChoiceGiven, CallRequires, CallEnsures, RunRequires, RunEnsures};
 
 use descent_arrays::{CHOICE_COLUMNS, CHOICES, ROW_COLUMN};
 use descent_steps::arrays::{column_of, end_behind, entry_of};
@@ -15,7 +15,7 @@ use recursive_descent_promises::Run;
 
 // The word of the token at a place.
 fn token_at(tokens: &[u16; PLACES], place: u16) -> u16
-    requires { place ≤ maxTokens }
+    requires { place ≤ max_tokens }
     ensures { result ≡ get_or tokens.now place 0 }
 {
     tokens[place as usize]
@@ -24,7 +24,7 @@ fn token_at(tokens: &[u16; PLACES], place: u16) -> u16
 // The number in a column of the row of a nonterminal.
 fn choice_at(choices: &[u16; CHOICES], nonterminal: usize, column: usize) -> u16
     requires { ChoiceGiven nonterminal column }
-    ensures { result ≡ choiceAt choices.now nonterminal column }
+    ensures { result ≡ choice_at choices.now nonterminal column }
 {
     choices[nonterminal * CHOICE_COLUMNS + column]
 }

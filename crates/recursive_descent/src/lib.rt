@@ -1,6 +1,6 @@
 // Memoized recursive descent in a lent memo table: on one input, and on all inputs of a length.
 ghost use Rattle.event.specs.Events.{input_of};
-ghost use Rattle.recognizer_promises.specs.contracts.Judging.{DescendsWords};
+ghost use Rattle.recognizer_promises.specs.inner.Judging.{DescendsWords};
 
 use descent::call;
 use descent_preparation::prepare_input;

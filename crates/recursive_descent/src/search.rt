@@ -1,7 +1,7 @@
 // The costliest input of a length: the first in letter order of those on which the descent makes the most calls.
 ghost use Rattle.std.specs.Prelude.{length};
-ghost use Rattle.recognizer_promises.specs.contracts.Search.{SearchesWords};
-ghost use Rattle.recursive_descent_promises.specs.contracts.Search.{TrialGiven, TrialsGiven, Tried, CostliestLeft};
+ghost use Rattle.recognizer_promises.specs.inner.Search.{SearchesWords};
+ghost use Rattle.recursive_descent_promises.specs.inner.Search.{TrialGiven, TrialsGiven, Tried, CostliestLeft};
 
 use super::descent::call;
 use descent_arrays::CHOICES;

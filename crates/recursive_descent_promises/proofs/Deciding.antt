@@ -7,51 +7,51 @@ use native.Mathlib.Numerals.{add-one}
 use native.Mathlib.Omega.{arith}
 use lib.ListN.{length, replicate, take, drop, length-append, length-replicate, get_or-replicate}
 use lib.Seq.{length-take-le, take_at, drop_at}
-use Rattle.grammar.specs.Codes.{uncalledCode}
+use Rattle.grammar.specs.Codes.{uncalled_code}
 use Rattle.grammar.specs.Syntax.{Grammar}
-use Rattle.grammar.specs.Encoding.{grammarOf}
-use Rattle.grammar.specs.contracts.Starts.{ruleStarts}
-use Rattle.grammar.specs.contracts.WellRead.{WellRead}
+use Rattle.grammar.specs.Encoding.{grammar_of}
+use Rattle.grammar.specs.inner.Starts.{rule_starts}
+use Rattle.grammar.specs.inner.WellRead.{WellRead}
 use Rattle.grammar.specs.declared.reading.Sizes.{Sizes}
-use Rattle.grammar.proofs.WellRead.{well-read}
+use Rattle.grammar.proofs.WellRead.{well_read}
 use Rattle.semantics.specs.Valuations.{pairs}
-use Rattle.semantics.specs.Choices.{Choice, tableChoice}
-use Rattle.semantics.specs.Memo.{memoIndex, Recorded}
-use Rattle.semantics.specs.contracts.Memo.{blank}
-use Rattle.semantics.proofs.descent.Range.{index-range}
+use Rattle.semantics.specs.Choices.{Choice, table_choice}
+use Rattle.semantics.specs.Memo.{memo_index, Recorded}
+use Rattle.semantics.specs.inner.Memo.{blank}
+use Rattle.semantics.proofs.descent.Range.{index_range}
 use Rattle.semantics.proofs.Theorems.{theorems}
 use Rattle.lookahead.specs.declared.Lookahead.{Lookahead}
 use Rattle.lookahead.specs.Lookaheads.{tokens}
-use Rattle.families.proofs.FewTerminals.{admitted-read, few-terminals}
-use Rattle.columns.specs.Columns.{columnCount}
-use Rattle.table.specs.contracts.Entries.{entriesOf}
-use Rattle.recognizer_promises.specs.Memory.{memoWords}
+use Rattle.families.proofs.FewTerminals.{admitted_read, few_terminals_lem}
+use Rattle.columns.specs.Columns.{column_count}
+use Rattle.table.specs.inner.Entries.{entries_of}
+use Rattle.recognizer_promises.specs.Memory.{memo_words}
 use Rattle.answer.specs.declared.Error.{Error}
 use Rattle.families.specs.declared.Finding.{Finding}
 use Rattle.families.specs.declared.Finding.TheVariants.{Passed, Refused}
-use Rattle.recognizer_promises.specs.contracts.Judging.{Ready, PassedGiven, DescendsWords}
-use Rattle.recognizer_promises.proofs.Judged.{needed-room, descend-given, front-left, words-refused, passed-given, words-descended}
-use Rattle.recognizer_promises.proofs.MemoWords.{words-recorded}
+use Rattle.recognizer_promises.specs.inner.Judging.{Ready, PassedGiven, DescendsWords}
+use Rattle.recognizer_promises.proofs.Judged.{needed_room, descend_given, front_left, words_refused, passed_given, words_descended}
+use Rattle.recognizer_promises.proofs.MemoWords.{words_recorded}
 use Rattle.event.specs.Events.{input_of}
-use Rattle.event.proofs.Inputs.{input-length}
-use Rattle.descent_arrays.specs.contracts.Arrays.{heldTokens, row_at}
-use Rattle.descent_choices.specs.contracts.Choices.{memoEntries}
-use Rattle.descent_tokens.specs.contracts.Tokens.{tokensOf}
-use Rattle.descent_tokens.proofs.TokenWords.{TokensGiven, TokensHold, column-few, tokens-hold}
+use Rattle.event.proofs.Inputs.{input_length}
+use Rattle.descent_arrays.specs.inner.Arrays.{held_tokens, row_at}
+use Rattle.descent_choices.specs.inner.Choices.{memo_entries}
+use Rattle.descent_tokens.specs.inner.Tokens.{tokens_of}
+use Rattle.descent_tokens.proofs.TokenWords.{TokensGiven, TokensHold, column_few, tokens_hold}
 use Rattle.descent_choices.proofs.ChoiceRows.{Filled, entries_fit}
 use Rattle.descent_preparation.specs.declared.Prepared.{Prepared}
-use Rattle.descent_preparation.specs.contracts.Preparation.{sizesOf, InputPrepared}
-use Rattle.recursive_descent_promises.specs.contracts.Descent.{MemoSound, CallGiven, CallRequires, CallEnsures}
-use Rattle.recursive_descent_promises.specs.contracts.Judging.{JudgeGiven}
-use Rattle.recursive_descent_promises.proofs.TableChoices.{rows-filled, choices-hold}
-use Rattle.recursive_descent_promises.proofs.Descending.{start-recorded}
+use Rattle.descent_preparation.specs.inner.Preparation.{sizes_of, InputPrepared}
+use Rattle.recursive_descent_promises.specs.inner.Descent.{MemoSound, CallGiven, CallRequires, CallEnsures}
+use Rattle.recursive_descent_promises.specs.inner.Judging.{JudgeGiven}
+use Rattle.recursive_descent_promises.proofs.TableChoices.{rows_filled, choices_hold}
+use Rattle.recursive_descent_promises.proofs.Descending.{start_recorded}
 
 -- a memo table in which no call is recorded is sound
-pub blank-sound : (choice : Choice) (words input : List ℕ) → MemoSound choice words input (blank (grammarOf words) input)
-blank-sound choice words input = record {
-  size = length-replicate (pairs (grammarOf words) input) uncalledCode;
+pub blank_sound : (choice : Choice) (words input : List ℕ) → MemoSound choice words input (blank (grammar_of words) input)
+blank_sound choice words input = record {
+  size = length-replicate (pairs (grammar_of words) input) uncalled_code;
   right = λ x h n. absurd
-      (n (get_or-replicate (pairs (grammarOf words) input) (memoIndex input x) uncalledCode uncalledCode (index-range (grammarOf words) input x h)));
+      (n (get_or-replicate (pairs (grammar_of words) input) (memo_index input x) uncalled_code uncalled_code (index_range (grammar_of words) input x h)));
 }
 
 -- an input and the choices for its length
@@ -59,120 +59,120 @@ module _ {k : Lookahead} {words : List ℕ} {z : Sizes} {choices memo : List ℕ
   abbrev input : List ℕ
   input = input_of events
 
-  ready : Ready k words z (ruleStarts words) (entriesOf k (grammarOf words)) input
+  ready : Ready k words z (rule_starts words) (entries_of k (grammar_of words)) input
   ready = g.given.ready
 
   r : WellRead words z
-  r = well-read words z (admitted-read k words ready.taken)
+  r = well_read words z (admitted_read k words ready.taken)
 
   abbrev G : Grammar
-  G = grammarOf words
+  G = grammar_of words
 
   abbrev n : ℕ
   n = tokens k
 
   -- the choice that the descent goes by
   abbrev choice : Choice
-  choice = tableChoice G n input
+  choice = table_choice G n input
 
-  some-nonterminal : 0 < G.nonterminals
-  some-nonterminal = omega (arith, r.nonterminals, r.someNonterminal)
+  some_nonterminal_lem : 0 < G.nonterminals
+  some_nonterminal_lem = omega (arith, r.nonterminals, r.some_nonterminal)
 
-  tokens-given : TokensGiven k input z.terminals
-  tokens-given = record { short = ready.short; few = rw r.terminals (few-terminals k words ready.taken); known = rw r.terminals ready.tokens }
+  tokens_given : TokensGiven k input z.terminals
+  tokens_given = record { short = ready.short; few = rw r.terminals (few_terminals_lem k words ready.taken); known = rw r.terminals ready.tokens }
 
-  f : Filled (ruleStarts words) z.nonterminals (columnCount k z.terminals) (entriesOf k G) (length input) choices
-  f = rw g.made (rows-filled ready)
+  f : Filled (rule_starts words) z.nonterminals (column_count k z.terminals) (entries_of k G) (length input) choices
+  f = rw g.made (rows_filled ready)
 
   -- the arrays hold that choice and the input
-  module _ {tokens : List ℕ} (w : tokens ≡ tokensOf k z.terminals input) where
+  module _ {tokens : List ℕ} (w : tokens ≡ tokens_of k z.terminals input) where
     t : TokensHold k z.terminals input tokens
-    t = rw w (tokens-hold tokens-given)
+    t = rw w (tokens_hold tokens_given)
 
     begun : CallGiven choice words choices tokens input (blank G input) 0 0
     unfolding row_at
     begun = record {
       given = record {
         sizes = z;
-        read = admitted-read k words ready.taken;
+        read = admitted_read k words ready.taken;
         free = ready.free;
-        own = theorems.own-rules G n input;
+        own = theorems.own_rules G n input;
         rows = λ A a. f.rows A (omega (arith, r.nonterminals)) ∙ ap (λ n. A * n) (add-one (length input));
         ends = λ A a. f.ends A (omega (arith, r.nonterminals));
-        columns = λ i h. omega (arith, t.columns i h, column-few tokens-given i);
-        firsts = choices-hold ready f (rw (← r.terminals) t);
+        columns = λ i h. omega (arith, t.columns i h, column_few tokens_given i);
+        firsts = choices_hold ready f (rw (← r.terminals) t);
         terminals = t.terminals;
         end = t.end;
         short = ready.short;
-        sound = blank-sound choice words input;
+        sound = blank_sound choice words input;
       };
-      named = some-nonterminal;
+      named = some_nonterminal_lem;
       placed = omega arith;
     }
 
     -- and no entry is written
-    module _ {blanked : List ℕ} (b : blanked ≡ replicate (length memo) uncalledCode) where
-      blank-is : blanked ≡ blank G input
-      blank-is = b ∙ ap (λ n. replicate n uncalledCode) g.given.size
+    module _ {blanked : List ℕ} (b : blanked ≡ replicate (length memo) uncalled_code) where
+      blank_is : blanked ≡ blank G input
+      blank_is = b ∙ ap (λ n. replicate n uncalled_code) g.given.size
 
-      begun-held : CallGiven choice words choices tokens (heldTokens tokens) blanked 0 0
-      begun-held = rw (t.input, blank-is) begun
+      begun_held : CallGiven choice words choices tokens (held_tokens tokens) blanked 0 0
+      begun_held = rw (t.input, blank_is) begun
 
-      pub start-given : CallRequires words choices tokens blanked 0 0
-      start-given = (choice, begun-held)
+      pub start_given : CallRequires words choices tokens blanked 0 0
+      start_given = (choice, begun_held)
 
       module _ {entry : ℕ} {memo' : List ℕ} (ensured : CallEnsures words choices tokens blanked 0 0 entry memo') where
         pub recorded : Recorded G choice input memo'
-        recorded = start-recorded begun (rw (t.input, blank-is) at (ensured choice begun-held))
+        recorded = start_recorded begun (rw (t.input, blank_is) at (ensured choice begun_held))
 
-        pub entries-left : memo' ≡ memoWords k G input
-        entries-left = words-recorded k G input r.formed.scoped ready.free some-nonterminal recorded
+        pub entries_left : memo' ≡ memo_words k G input
+        entries_left = words_recorded k G input r.formed.scoped ready.free some_nonterminal_lem recorded
 
 -- what is prepared for an input: where it is refused no entry, and else those that the descent needs
 module _ {k : Lookahead} {words events memo : List ℕ} {p : Prepared} {memo₁ : List ℕ} (m : InputPrepared k words events memo p memo₁) where
   abbrev needed : ℕ
   needed = p.entries
 
-  needed-fits : needed ≤ length memo
-  needed-fits = omega (arith, m.fitting)
+  needed_fits : needed ≤ length memo
+  needed_fits = omega (arith, m.fitting)
 
-  blank-long : length (replicate needed uncalledCode) ≡ needed
-  blank-long = length-replicate needed uncalledCode
+  blank_long : length (replicate needed uncalled_code) ≡ needed
+  blank_long = length-replicate needed uncalled_code
 
-  pub prepared-fits : needed ≤ length memo₁
-  prepared-fits = rw (m.blank, length-append (replicate needed uncalledCode) (drop needed memo), blank-long) (omega arith)
+  pub prepared_fits : needed ≤ length memo₁
+  prepared_fits = rw (m.blank, length-append (replicate needed uncalled_code) (drop needed memo), blank_long) (omega arith)
 
-  part-is : take needed memo₁ ≡ replicate (length (take needed memo)) uncalledCode
-  part-is =
-      ap (take needed) m.blank ∙ take_at (replicate needed uncalledCode) (drop needed memo) needed blank-long
-      ∙ ap (λ n. replicate n uncalledCode) (sym (length-take-le needed memo needed-fits))
+  part_is : take needed memo₁ ≡ replicate (length (take needed memo)) uncalled_code
+  part_is =
+      ap (take needed) m.blank ∙ take_at (replicate needed uncalled_code) (drop needed memo) needed blank_long
+      ∙ ap (λ n. replicate n uncalled_code) (sym (length-take-le needed memo needed_fits))
 
-  rest-is : drop needed memo₁ ≡ drop needed memo
-  rest-is = ap (drop needed) m.blank ∙ drop_at (replicate needed uncalledCode) (drop needed memo) needed blank-long
+  rest_is : drop needed memo₁ ≡ drop needed memo
+  rest_is = ap (drop needed) m.blank ∙ drop_at (replicate needed uncalled_code) (drop needed memo) needed blank_long
 
   -- a grammar that passes, in the front of the memo table
   module _ {z : Sizes} (q : p.found.finding ≡ Passed z) where
     g : PassedGiven k words z p.found.starts p.found.entries (input_of events) memo
-    g = passed-given k words (input_of events) memo m.finds q
+    g = passed_given k words (input_of events) memo m.finds q
 
     r₁ : WellRead words z
-    r₁ = well-read words z (admitted-read k words g.ready.taken)
+    r₁ = well_read words z (admitted_read k words g.ready.taken)
 
-    entries-is : memoEntries z.nonterminals (length events) ≡ z.nonterminals * (length events + 1)
-    entries-is = entries_fit z.nonterminals (length events) r₁.fewNonterminals (omega (arith, g.ready.short, input-length events))
+    entries_is : memo_entries z.nonterminals (length events) ≡ z.nonterminals * (length events + 1)
+    entries_is = entries_fit z.nonterminals (length events) r₁.few_nonterminals (omega (arith, g.ready.short, input_length events))
 
-    needed-is : needed ≡ z.nonterminals * (length events + 1)
-    needed-is =
-        let e : needed ≡ min (memoEntries z.nonterminals (length events)) (length memo) =
-        m.fitting ∙ ap (λ f. min (memoEntries (sizesOf f).nonterminals (length events)) (length memo)) q in
-        omega (arith, e, entries-is, needed-room events g)
+    needed_is : needed ≡ z.nonterminals * (length events + 1)
+    needed_is =
+        let e : needed ≡ min (memo_entries z.nonterminals (length events)) (length memo) =
+        m.fitting ∙ ap (λ f. min (memo_entries (sizes_of f).nonterminals (length events)) (length memo)) q in
+        omega (arith, e, entries_is, needed_room events g)
 
-    needed-some : 0 < needed
-    needed-some = let l = mul-le-mul {n₁ = 1} {m₁ = 1} {n₂ = z.nonterminals} {m₂ = length events + 1} r₁.someNonterminal (omega arith) in
-        omega (arith, needed-is, l)
+    needed_some : 0 < needed
+    needed_some = let l = mul-le-mul {n₁ = 1} {m₁ = 1} {n₂ = z.nonterminals} {m₂ = length events + 1} r₁.some_nonterminal (omega arith) in
+        omega (arith, needed_is, l)
 
-    judge-given : JudgeGiven k words z p.choices (input_of events) (take needed memo)
-    judge-given = record {
+    judge_given : JudgeGiven k words z p.choices (input_of events) (take needed memo)
+    judge_given = record {
       given = record {
         ready = record {
           taken = g.ready.taken;
@@ -182,39 +182,39 @@ module _ {k : Lookahead} {words events memo : List ℕ} {p : Prepared} {memo₁ 
           tokens = g.ready.tokens;
           short = g.ready.short;
         };
-        size = rw needed-is (descend-given events g).size;
+        size = rw needed_is (descend_given events g).size;
       };
-      made = m.choices ∙ rw (q, g.ready.begins, g.ready.entered, input-length events);
+      made = m.choices ∙ rw (q, g.ready.begins, g.ready.entered, input_length events);
     }
 
-    read : p.tokens ≡ tokensOf k z.terminals (input_of events)
-    read = m.tokens ∙ ap (λ f. tokensOf k (sizesOf f).terminals (input_of events)) q
+    read : p.tokens ≡ tokens_of k z.terminals (input_of events)
+    read = m.tokens ∙ ap (λ f. tokens_of k (sizes_of f).terminals (input_of events)) q
 
     passed_start : CallRequires words p.choices p.tokens (take needed memo₁) 0 0
-    passed_start = start-given events judge-given read part-is
+    passed_start = start_given events judge_given read part_is
 
-    passed-done : {entry : ℕ} {part : List ℕ} → CallEnsures words p.choices p.tokens (take needed memo₁) 0 0 entry part
+    passed_done : {entry : ℕ} {part : List ℕ} → CallEnsures words p.choices p.tokens (take needed memo₁) 0 0 entry part
         → DescendsWords k words (input_of events) memo p.found (part ++ drop needed memo₁)
-    passed-done {entry} {part} d =
-        words-descended k words (input_of events) memo m.finds q
-        (ap (λ y. part ++ y) rest-is ∙ rw needed-is (front-left events g (entries-left events judge-given read part-is d)))
+    passed_done {entry} {part} d =
+        words_descended k words (input_of events) memo m.finds q
+        (ap (λ y. part ++ y) rest_is ∙ rw needed_is (front_left events g (entries_left events judge_given read part_is d)))
 
   -- without an entry it is refused, and nothing is changed
-  pub prepared-refused : needed ≡ 0 → DescendsWords k words (input_of events) memo p.found memo₁
-  prepared-refused e = go p.found.finding refl
+  pub prepared_refused : needed ≡ 0 → DescendsWords k words (input_of events) memo p.found memo₁
+  prepared_refused e = go p.found.finding refl
     where
       same : memo₁ ≡ memo
-      same = m.blank ∙ ap (λ n. replicate n uncalledCode ++ drop n memo) e
+      same = m.blank ∙ ap (λ n. replicate n uncalled_code ++ drop n memo) e
 
       go : (f : Finding) → p.found.finding ≡ f → DescendsWords k words (input_of events) memo p.found memo₁
-      go (Passed z) q = absurd (omega (arith, needed-some q, e))
-      go (Refused x) q = rw same (words-refused k words (input_of events) memo m.finds q)
+      go (Passed z) q = absurd (omega (arith, needed_some q, e))
+      go (Refused x) q = rw same (words_refused k words (input_of events) memo m.finds q)
 
   -- with entries the start can be called
   module _ (some : needed ≡ 0 → ⊥) where
     none : {x : Error} → p.found.finding ≡ Refused x → needed ≡ 0
-    unfolding memoEntries
-    none q = let e = m.fitting ∙ ap (λ f. min (memoEntries (sizesOf f).nonterminals (length events)) (length memo)) q in omega (arith, e)
+    unfolding memo_entries
+    none q = let e = m.fitting ∙ ap (λ f. min (memo_entries (sizes_of f).nonterminals (length events)) (length memo)) q in omega (arith, e)
 
     passed : (z : Sizes) × (p.found.finding ≡ Passed z)
     passed = go p.found.finding refl
@@ -223,9 +223,9 @@ module _ {k : Lookahead} {words events memo : List ℕ} {p : Prepared} {memo₁ 
         go (Passed z) q = (z, q)
         go (Refused x) q = absurd (some (none q))
 
-    pub prepared-start : CallRequires words p.choices p.tokens (take needed memo₁) 0 0
-    prepared-start = passed_start passed.1
+    pub prepared_start : CallRequires words p.choices p.tokens (take needed memo₁) 0 0
+    prepared_start = passed_start passed.1
 
-    pub prepared-done : {entry : ℕ} {part : List ℕ} → CallEnsures words p.choices p.tokens (take needed memo₁) 0 0 entry part
+    pub prepared_done : {entry : ℕ} {part : List ℕ} → CallEnsures words p.choices p.tokens (take needed memo₁) 0 0 entry part
         → DescendsWords k words (input_of events) memo p.found (part ++ drop needed memo₁)
-    prepared-done d = passed-done passed.1 d
+    prepared_done d = passed_done passed.1 d

@@ -16,44 +16,44 @@ use Rattle.word.specs.declared.Symbol as grammar
 use Rattle.word.specs.declared.Symbol.TheVariants.{Terminal, Nonterminal}
 use Rattle.word.specs.declared.Word.{Word}
 use Rattle.word.specs.declared.Word.TheVariants.{Heading, Rule, Positive, Negative, Symbol, End as EndWord, Invalid}
-use Rattle.grammar.specs.Codes.{failedCode}
+use Rattle.grammar.specs.Codes.{failed_code}
 use Rattle.grammar.specs.Syntax.{Body, Grammar, NonterminalsBelow, TerminalsBelow}
-use Rattle.grammar.specs.Encoding.{Parsed, on_word, parse, grammarOf}
+use Rattle.grammar.specs.Encoding.{Parsed, on_word, parse, grammar_of}
 use Rattle.grammar.specs.Reading.{allows, scan, reading}
-use Rattle.grammar.specs.contracts.WellRead.{WellRead}
+use Rattle.grammar.specs.inner.WellRead.{WellRead}
 use Rattle.grammar.specs.declared.reading.State.{State}
 use Rattle.grammar.specs.declared.reading.Progress.{Progress}
-use Rattle.grammar.proofs.Suffixes.{scan-next}
-use Rattle.grammar.proofs.WellRead.{well-read}
+use Rattle.grammar.proofs.Suffixes.{scan_next}
+use Rattle.grammar.proofs.WellRead.{well_read}
 use Rattle.semantics.specs.LeftRecursion.{nullable, LeftIn, here, there, LeftDepends}
 use Rattle.semantics.specs.Choices.{Choice}
 use Rattle.semantics.specs.Descent.{Outcome, Failed, End, ends_at, descend}
 use Rattle.semantics.specs.ComesTo.{call_at}
-use Rattle.semantics.specs.contracts.ComesTo.{measure}
-use Rattle.semantics.specs.contracts.MemoDescent.{memoized, and_then, MemoCalls, memoRun, memoCall}
-use Rattle.semantics.specs.Memo.{outcomeCode}
-use Rattle.semantics.specs.contracts.Memo.{decode}
-use Rattle.semantics.proofs.meaning.Rank.{level-onward}
-use Rattle.semantics.proofs.descent.Outcomes.{end-ends}
-use Rattle.semantics.proofs.descent.Ends.{descend-forward, descend-null}
-use Rattle.rule.specs.contracts.Rule.{isSymbol, bodyEnd}
-use Rattle.rule.proofs.Bodies.{body-stops}
+use Rattle.semantics.specs.inner.ComesTo.{measure}
+use Rattle.semantics.specs.inner.MemoDescent.{memoized, and_then, MemoCalls, memo_run, memo_call}
+use Rattle.semantics.specs.Memo.{outcome_code}
+use Rattle.semantics.specs.inner.Memo.{decode}
+use Rattle.semantics.proofs.meaning.Rank.{level_onward}
+use Rattle.semantics.proofs.descent.Outcomes.{end_ends}
+use Rattle.semantics.proofs.descent.Ends.{descend_forward, descend_null}
+use Rattle.rule.specs.inner.Rule.{is_symbol, body_end}
+use Rattle.rule.proofs.Bodies.{body_stops}
 use Rattle.descent_steps.specs.declared.Step.TheVariants as step
 use Rattle.descent_steps.specs.declared.Step.TheVariants.{Over}
-use Rattle.descent_steps.specs.contracts.Steps.{step_of, endBehind}
-use Rattle.descent_steps.proofs.Steps.{terminal-word, nonterminal-word, symbol-step}
-use Rattle.grammar.specs.Limits.{maxNonterminals}
+use Rattle.descent_steps.specs.inner.Steps.{step_of, end_behind}
+use Rattle.descent_steps.proofs.Steps.{terminal_word, nonterminal_word, symbol_step_lem}
+use Rattle.grammar.specs.Limits.{max_nonterminals}
 use Rattle.recursive_descent_promises.specs.declared.Run.{Run}
-use Rattle.descent_arrays.specs.contracts.Arrays.{endMark, columnWeight, matchesAt}
-use Rattle.recursive_descent_promises.specs.contracts.Descent.{isClosed, Skipped, MemoSound, CallGiven, RunGiven, CallDone, RunDone}
-use Rattle.recursive_descent_promises.proofs.Bodies.{parse-here, symbol-reads, read-within, skipped-none, skipped-symbol}
+use Rattle.descent_arrays.specs.inner.Arrays.{end_mark, column_weight, matches_at}
+use Rattle.recursive_descent_promises.specs.inner.Descent.{is_closed, Skipped, MemoSound, CallGiven, RunGiven, CallDone, RunDone}
+use Rattle.recursive_descent_promises.proofs.Bodies.{parse_here, symbol_reads, read_within, skipped_none, skipped_symbol}
 
 -- the calls at most n deep, on the words' grammar
 abbrev pub deep : Choice → List ℕ → List ℕ → ℕ → MemoCalls
-deep choice words input n = memoCall (grammarOf words) choice input n
+deep choice words input n = memo_call (grammar_of words) choice input n
 
 abbrev pub level : List ℕ → List ℕ → ℕ → ℕ → ℕ
-level words input A place = measure (grammarOf words) input (call_at A place)
+level words input A place = measure (grammar_of words) input (call_at A place)
 
 pub body_at : List ℕ → ℕ → Body
 body_at words at = (parse (drop at words)).body
@@ -68,20 +68,20 @@ pub record Running (choice : Choice) (words input memo₀ : List ℕ) (A from st
   pub placed : place ≤ length input
   pub sound : MemoSound choice words input memo
   pub rest : (n : ℕ) → level words input A start ≤ n
-      → memoRun (deep choice words input n) input (body_at words from) start memo₀ ≡ memoRun (deep choice words input n) input (body_at words at) place memo
-  pub known : NonterminalsBelow (grammarOf words).nonterminals (body_at words at)
-  pub own : TerminalsBelow (grammarOf words).terminals (body_at words at)
-  pub front : place ≡ start → (B : ℕ) → LeftIn (nullable (grammarOf words)) B (body_at words at) → LeftDepends (grammarOf words) A B
+      → memo_run (deep choice words input n) input (body_at words from) start memo₀ ≡ memo_run (deep choice words input n) input (body_at words at) place memo
+  pub known : NonterminalsBelow (grammar_of words).nonterminals (body_at words at)
+  pub own : TerminalsBelow (grammar_of words).terminals (body_at words at)
+  pub front : place ≡ start → (B : ℕ) → LeftIn (nullable (grammar_of words)) B (body_at words at) → LeftDepends (grammar_of words) A B
   pub progress : Progress
   pub reads : scan progress at (drop at words) ≡ reading words
-  pub unclosed : isClosed progress.state ≡ false
+  pub unclosed : is_closed progress.state ≡ false
   pub skipped : Skipped words from at
 
 -- the symbol before an index has been read, and gave an entry: the run goes on from its end, or has failed
 pub record Read (choice : Choice) (words input memo₀ : List ℕ) (A from start : ℕ) (memo : List ℕ) (at entry : ℕ) : Type 0 where
   pub sound : MemoSound choice words input memo
   pub goes : (e : ℕ) → decode entry ≡ End e → Running choice words input memo₀ A from start memo at e
-  pub fails : decode entry ≡ Failed → RunDone choice words input memo₀ A from start (stopped failedCode at) memo
+  pub fails : decode entry ≡ Failed → RunDone choice words input memo₀ A from start (stopped failed_code at) memo
 
 -- where two ways meet
 pub read_as : {choice : Choice} {words input memo₀ : List ℕ} {A from start : ℕ} {memo memo' : List ℕ} {at entry entry' : ℕ} → memo' ≡ memo
@@ -91,14 +91,14 @@ read_as m p v = rw (m, p) v
 module _ {choice : Choice} {words choices tokens input memo₀ : List ℕ} {A from start : ℕ}
     (g : RunGiven choice words choices tokens input memo₀ A from start) where
   abbrev G : Grammar
-  G = grammarOf words
+  G = grammar_of words
 
   r : WellRead words g.call.given.sizes
-  r = well-read words g.call.given.sizes g.call.given.read
+  r = well_read words g.call.given.sizes g.call.given.read
 
-  pub running-start : Running choice words input memo₀ A from start memo₀ from start
+  pub running_start : Running choice words input memo₀ A from start memo₀ from start
   unfolding body_at
-  running-start = record {
+  running_start = record {
     behind = omega arith;
     placed = g.call.placed;
     sound = g.call.given.sound;
@@ -109,44 +109,44 @@ module _ {choice : Choice} {words choices tokens input memo₀ : List ℕ} {A fr
     progress = g.progress;
     reads = g.reads;
     unclosed = g.unclosed;
-    skipped = skipped-none words from g.inside;
+    skipped = skipped_none words from g.inside;
   }
 
   -- whether the token at a place is a terminal of the grammar, by its word
-  token-is : (place a : ℕ) → place ≤ length input → a < (grammarOf words).terminals
-      → matchesAt tokens place a ≡ (ltb place (length input) && eqb (get_or input place 0) a)
-  unfolding matchesAt
-  token-is place a h l = go (dec_lt place (length input))
+  token_is : (place a : ℕ) → place ≤ length input → a < (grammar_of words).terminals
+      → matches_at tokens place a ≡ (ltb place (length input) && eqb (get_or input place 0) a)
+  unfolding matches_at
+  token_is place a h l = go (dec_lt place (length input))
     where
-      go : Dec (place < length input) → eqb (get_or tokens place 0 % columnWeight) a ≡ (ltb place (length input) && eqb (get_or input place 0) a)
+      go : Dec (place < length input) → eqb (get_or tokens place 0 % column_weight) a ≡ (ltb place (length input) && eqb (get_or input place 0) a)
       go (yes k) = rw (lt-ltb place (length input) k, g.call.given.terminals place k)
       go (no k) =
           let e : place ≡ length input = omega arith in
-          let n : endMark ≡ a → ⊥ = λ q. absurd (omega (arith, r.terminals, r.fewTerminals)) in
-          rw (le-ltb place (length input) (omega arith), e, g.call.given.end, ne_eqb endMark a n)
+          let n : end_mark ≡ a → ⊥ = λ q. absurd (omega (arith, r.terminals, r.few_terminals)) in
+          rw (le-ltb place (length input) (omega arith), e, g.call.given.end, ne_eqb end_mark a n)
 
 end_same : (i j : ℕ) → End i ≡ End j → i ≡ j
 end_same i j e = cc
 
-failed-end : (j : ℕ) → Failed ≡ End j → ⊥
-failed-end j e = let n : ◌≡◌ {A = ℕ} 0 1 = cc in omega arith
+failed_end : (j : ℕ) → Failed ≡ End j → ⊥
+failed_end j e = let n : ◌≡◌ {A = ℕ} 0 1 = cc in omega arith
 
 -- an entry below the codes is an end
-end-code : (n : ℕ) → (n ≡ failedCode → ⊥) → decode n ≡ End n
+end_code : (n : ℕ) → (n ≡ failed_code → ⊥) → decode n ≡ End n
 unfolding decode
-end-code n h = rw (ne_eqb n failedCode h)
+end_code n h = rw (ne_eqb n failed_code h)
 
-failed-code : decode failedCode ≡ Failed
+failed_code_lem : decode failed_code ≡ Failed
 unfolding decode
-failed-code = refl
+failed_code_lem = refl
 
 -- an entry tells its outcome, where the outcome's end is below the codes
-decode-encode : (n : ℕ) (o : Outcome) → n < failedCode → ((e : ℕ) → T (ends_at o e) → e ≤ n) → decode (outcomeCode o) ≡ o
-unfolding outcomeCode decode
-decode-encode n Failed s h = refl
-decode-encode n (End e) s h = rw (ne_eqb e failedCode (λ q. absurd (omega (arith, h e (end-ends (End e) e refl)))))
+decode_encode : (n : ℕ) (o : Outcome) → n < failed_code → ((e : ℕ) → T (ends_at o e) → e ≤ n) → decode (outcome_code o) ≡ o
+unfolding outcome_code decode
+decode_encode n Failed s h = refl
+decode_encode n (End e) s h = rw (ne_eqb e failed_code (λ q. absurd (omega (arith, h e (end_ends (End e) e refl)))))
 
-no_symbol : (w : Word) → ((X : grammar.Symbol) → w ≡ Symbol X → ⊥) → isSymbol w ≡ false
+no_symbol : (w : Word) → ((X : grammar.Symbol) → w ≡ Symbol X → ⊥) → is_symbol w ≡ false
 no_symbol (Heading n t) h = refl
 no_symbol (Rule A) h = refl
 no_symbol Positive h = refl
@@ -156,25 +156,25 @@ no_symbol EndWord h = refl
 no_symbol Invalid h = refl
 
 -- the words that are no symbol end a body
-body-none : (w : Word) (p : Parsed) (s : State) → allows w s ≡ true → ((X : grammar.Symbol) → w ≡ Symbol X → ⊥) → (on_word w p).body ≡ []
+body_none : (w : Word) (p : Parsed) (s : State) → allows w s ≡ true → ((X : grammar.Symbol) → w ≡ Symbol X → ⊥) → (on_word w p).body ≡ []
 unfolding on_word
-body-none (Heading n t) p s a h = absurd (false≢true a)
-body-none (Rule A) p s a h = refl
-body-none Positive p s a h = refl
-body-none Negative p s a h = refl
-body-none (Symbol X) p s a h = absurd (h X refl)
-body-none EndWord p s a h = refl
-body-none Invalid p s a h = absurd (false≢true a)
+body_none (Heading n t) p s a h = absurd (false≢true a)
+body_none (Rule A) p s a h = refl
+body_none Positive p s a h = refl
+body_none Negative p s a h = refl
+body_none (Symbol X) p s a h = absurd (h X refl)
+body_none EndWord p s a h = refl
+body_none Invalid p s a h = absurd (false≢true a)
 
 module _ {choice : Choice} {words choices tokens input memo₀ : List ℕ} {A from start : ℕ} (g : RunGiven choice words choices tokens input memo₀ A from start)
     {memo : List ℕ} {at place : ℕ} (v : Running choice words input memo₀ A from start memo at place) where
   -- a run that reaches a word that is no symbol has ended
-  done : body_at words at ≡ [] → bodyEnd words at ≡ at → RunDone choice words input memo₀ A from start (stopped place at) memo
-  unfolding body_at memoRun
+  done : body_at words at ≡ [] → body_end words at ≡ at → RunDone choice words input memo₀ A from start (stopped place at) memo
+  unfolding body_at memo_run
   done e over =
-      let c = end-code place (λ q. omega (arith, v.placed, g.call.given.short)) in
+      let c = end_code place (λ q. omega (arith, v.placed, g.call.given.short)) in
       record {
-        model = λ n l. v.rest n l ∙ ap (λ b. memoRun (deep choice words input n) input b place memo) e ∙ ap (λ o. memoized o memo) (sym c);
+        model = λ n l. v.rest n l ∙ ap (λ b. memo_run (deep choice words input n) input b place memo) e ∙ ap (λ o. memoized o memo) (sym c);
         sound = v.sound;
         within = λ x q. let e : place ≡ x = end_same place x (sym c ∙ q) in omega (arith, v.placed);
         skipped = v.skipped;
@@ -182,119 +182,119 @@ module _ {choice : Choice} {words choices tokens input memo₀ : List ℕ} {A fr
       }
 
   -- the word at the index is there
-  pub running-within : at < length words
-  running-within = read-within words at v.progress g.call.given.sizes v.skipped.within (v.reads ∙ g.call.given.read) v.unclosed
+  pub running_within : at < length words
+  running_within = read_within words at v.progress g.call.given.sizes v.skipped.within (v.reads ∙ g.call.given.read) v.unclosed
 
-  pub running-done : step_of (decoded (get_or words at 0)) ≡ Over → RunDone choice words input memo₀ A from start (stopped place at) memo
+  pub running_done : step_of (decoded (get_or words at 0)) ≡ Over → RunDone choice words input memo₀ A from start (stopped place at) memo
   unfolding body_at parse
-  running-done e =
-      let s = scan-next words at v.progress g.call.given.sizes running-within (v.reads ∙ g.call.given.read) in
-      let none : (X : grammar.Symbol) → decoded (get_or words at 0) ≡ Symbol X → ⊥ = λ X q. symbol-step X (sym (ap step_of q) ∙ e) in
-      done (ap (λ p. p.body) (parse-here words at running-within)
-      ∙ body-none (decoded (get_or words at 0)) (parse (drop (at + 1) words)) v.progress.state s.passed.allowed none)
-      (body-stops words at running-within (no_symbol (decoded (get_or words at 0)) none))
+  running_done e =
+      let s = scan_next words at v.progress g.call.given.sizes running_within (v.reads ∙ g.call.given.read) in
+      let none : (X : grammar.Symbol) → decoded (get_or words at 0) ≡ Symbol X → ⊥ = λ X q. symbol_step_lem X (sym (ap step_of q) ∙ e) in
+      done (ap (λ p. p.body) (parse_here words at running_within)
+      ∙ body_none (decoded (get_or words at 0)) (parse (drop (at + 1) words)) v.progress.state s.passed.allowed none)
+      (body_stops words at running_within (no_symbol (decoded (get_or words at 0)) none))
 
   -- the body from a symbol on
   module _ (X : grammar.Symbol) (h : at < length words) (x : decoded (get_or words at 0) ≡ Symbol X) where
-    body-here : body_at words at ≡ X ∷ body_at words (at + 1)
+    body_here : body_at words at ≡ X ∷ body_at words (at + 1)
     unfolding body_at on_word
-    body-here = ap (λ p. p.body) (parse-here words at h ∙ ap (λ w. on_word w (parse (drop (at + 1) words))) x)
+    body_here = ap (λ p. p.body) (parse_here words at h ∙ ap (λ w. on_word w (parse (drop (at + 1) words))) x)
 
-    next-reads : scan v.progress (at + 1) (drop (at + 1) words) ≡ reading words
-    next-reads =
+    next_reads : scan v.progress (at + 1) (drop (at + 1) words) ≡ reading words
+    next_reads =
         let z = g.call.given.sizes in
-        symbol-reads words at v.progress z X h x (v.reads ∙ g.call.given.read) ∙ sym g.call.given.read
+        symbol_reads words at v.progress z X h x (v.reads ∙ g.call.given.read) ∙ sym g.call.given.read
 
-    next-skipped : Skipped words from (at + 1)
-    next-skipped = skipped-symbol v.skipped h x
+    next_skipped : Skipped words from (at + 1)
+    next_skipped = skipped_symbol v.skipped h x
 
-    own-here : TerminalsBelow (grammarOf words).terminals (X ∷ body_at words (at + 1))
-    own-here = rw body-here at v.own
+    own_here : TerminalsBelow (grammar_of words).terminals (X ∷ body_at words (at + 1))
+    own_here = rw body_here at v.own
 
-    known-here : NonterminalsBelow (grammarOf words).nonterminals (X ∷ body_at words (at + 1))
-    known-here = rw body-here at v.known
+    known_here : NonterminalsBelow (grammar_of words).nonterminals (X ∷ body_at words (at + 1))
+    known_here = rw body_here at v.known
 
-    front-here : place ≡ start → (B : ℕ) → LeftIn (nullable (grammarOf words)) B (X ∷ body_at words (at + 1)) → LeftDepends (grammarOf words) A B
-    front-here = rw body-here at v.front
+    front_here : place ≡ start → (B : ℕ) → LeftIn (nullable (grammar_of words)) B (X ∷ body_at words (at + 1)) → LeftDepends (grammar_of words) A B
+    front_here = rw body_here at v.front
 
-    rest-here : (n : ℕ) → level words input A start ≤ n
-        → memoRun (deep choice words input n) input (body_at words from) start memo₀
-        ≡ memoRun (deep choice words input n) input (X ∷ body_at words (at + 1)) place memo
-    rest-here n l = v.rest n l ∙ ap (λ b. memoRun (deep choice words input n) input b place memo) body-here
+    rest_here : (n : ℕ) → level words input A start ≤ n
+        → memo_run (deep choice words input n) input (body_at words from) start memo₀
+        ≡ memo_run (deep choice words input n) input (X ∷ body_at words (at + 1)) place memo
+    rest_here n l = v.rest n l ∙ ap (λ b. memo_run (deep choice words input n) input b place memo) body_here
 
   module _ (a : ℕ) (step : step_of (decoded (get_or words at 0)) ≡ step.Terminal a) where
-    terminal-there : decoded (get_or words at 0) ≡ Symbol (Terminal a)
-    terminal-there = terminal-word (decoded (get_or words at 0)) a step
+    terminal_there : decoded (get_or words at 0) ≡ Symbol (Terminal a)
+    terminal_there = terminal_word (decoded (get_or words at 0)) a step
 
-    running-token : matchesAt tokens place a ≡ (ltb place (length input) && eqb (get_or input place 0) a)
-    running-token = token-is g place a v.placed (own-here (Terminal a) running-within terminal-there).0
+    running_token : matches_at tokens place a ≡ (ltb place (length input) && eqb (get_or input place 0) a)
+    running_token = token_is g place a v.placed (own_here (Terminal a) running_within terminal_there).0
 
     -- a token that is the terminal
-    matched-goes : matchesAt tokens place a ≡ true → Running choice words input memo₀ A from start memo (at + 1) (place + 1)
-    unfolding memoRun
-    matched-goes matched =
-        let m : (ltb place (length input) && eqb (get_or input place 0) a) ≡ true = sym running-token ∙ matched in
+    matched_goes : matches_at tokens place a ≡ true → Running choice words input memo₀ A from start memo (at + 1) (place + 1)
+    unfolding memo_run
+    matched_goes matched =
+        let m : (ltb place (length input) && eqb (get_or input place 0) a) ≡ true = sym running_token ∙ matched in
         let l : place < length input = ltb-true place (length input) (and_first (ltb place (length input)) (eqb (get_or input place 0) a) m) in
         record {
           behind = omega (arith, v.behind);
           placed = omega arith;
           sound = v.sound;
-          rest = λ n k. rest-here (Terminal a) running-within terminal-there n k ∙ rw (m, add-one place);
-          known = known-here (Terminal a) running-within terminal-there;
-          own = (own-here (Terminal a) running-within terminal-there).1;
+          rest = λ n k. rest_here (Terminal a) running_within terminal_there n k ∙ rw (m, add-one place);
+          known = known_here (Terminal a) running_within terminal_there;
+          own = (own_here (Terminal a) running_within terminal_there).1;
           front = λ e. absurd (omega (arith, v.behind));
           progress = v.progress;
-          reads = next-reads (Terminal a) running-within terminal-there;
+          reads = next_reads (Terminal a) running_within terminal_there;
           unclosed = v.unclosed;
-          skipped = next-skipped (Terminal a) running-within terminal-there;
+          skipped = next_skipped (Terminal a) running_within terminal_there;
         }
 
     -- another token, or the end
-    mismatch-fails : matchesAt tokens place a ≡ false → RunDone choice words input memo₀ A from start (stopped failedCode (at + 1)) memo
-    unfolding body_at memoRun
-    mismatch-fails m = record {
-      model = λ n k. rest-here (Terminal a) running-within terminal-there n k ∙ rw (sym running-token ∙ m, failed-code);
+    mismatch_fails : matches_at tokens place a ≡ false → RunDone choice words input memo₀ A from start (stopped failed_code (at + 1)) memo
+    unfolding body_at memo_run
+    mismatch_fails m = record {
+      model = λ n k. rest_here (Terminal a) running_within terminal_there n k ∙ rw (sym running_token ∙ m, failed_code_lem);
       sound = v.sound;
-      within = λ e q. absurd (failed-end e (sym failed-code ∙ q));
-      skipped = next-skipped (Terminal a) running-within terminal-there;
+      within = λ e q. absurd (failed_end e (sym failed_code_lem ∙ q));
+      skipped = next_skipped (Terminal a) running_within terminal_there;
       over = λ n. absurd (n refl);
     }
 
     -- by the word of the token
-    pub terminal-read : {token end : ℕ} → token ≡ get_or tokens place 0 → end ≡ endBehind token a place
+    pub terminal_read : {token end : ℕ} → token ≡ get_or tokens place 0 → end ≡ end_behind token a place
         → Read choice words input memo₀ A from start memo (at + 1) end
-    unfolding endBehind matchesAt
-    terminal-read {token} {end} t e = go (matchesAt tokens place a) refl (e ∙ rw (t, small))
+    unfolding end_behind matches_at
+    terminal_read {token} {end} t e = go (matches_at tokens place a) refl (e ∙ rw (t, small))
       where
-        low : place + 1 < failedCode
+        low : place + 1 < failed_code
         low = omega (arith, v.placed, g.call.given.short)
 
         small : (place + 1) % 65536 ≡ place + 1
         small = omega (arith, low)
 
         behind : decode (place + 1) ≡ End (place + 1)
-        behind = end-code (place + 1) (λ q. omega (arith, low, q))
+        behind = end_code (place + 1) (λ q. omega (arith, low, q))
 
-        go : (b : Bool) → matchesAt tokens place a ≡ b → end ≡ choose b (place + 1) failedCode
+        go : (b : Bool) → matches_at tokens place a ≡ b → end ≡ choose b (place + 1) failed_code
             → Read choice words input memo₀ A from start memo (at + 1) end
         go true m q = record {
           sound = v.sound;
-          goes = λ e d. rw (sym (end_same (place + 1) e (sym behind ∙ ap decode (sym q) ∙ d))) (matched-goes m);
-          fails = λ f. absurd (failed-end (place + 1) (sym f ∙ ap decode q ∙ behind));
+          goes = λ e d. rw (sym (end_same (place + 1) e (sym behind ∙ ap decode (sym q) ∙ d))) (matched_goes m);
+          fails = λ f. absurd (failed_end (place + 1) (sym f ∙ ap decode q ∙ behind));
         }
         go false m q = record {
           sound = v.sound;
-          goes = λ e d. absurd (failed-end e (sym failed-code ∙ ap decode (sym q) ∙ d));
-          fails = λ _. mismatch-fails m;
+          goes = λ e d. absurd (failed_end e (sym failed_code_lem ∙ ap decode (sym q) ∙ d));
+          fails = λ _. mismatch_fails m;
         }
 
   module _ (B : ℕ) (step : step_of (decoded (get_or words at 0)) ≡ step.Nonterminal B) where
-    nonterminal-there : decoded (get_or words at 0) ≡ Symbol (Nonterminal B)
-    nonterminal-there = nonterminal-word (decoded (get_or words at 0)) B step
+    nonterminal_there : decoded (get_or words at 0) ≡ Symbol (Nonterminal B)
+    nonterminal_there = nonterminal_word (decoded (get_or words at 0)) B step
 
     -- the call that a nonterminal makes
-    pub running-given : CallGiven choice words choices tokens input memo B place
-    running-given = record {
+    pub running_given : CallGiven choice words choices tokens input memo B place
+    running_given = record {
       given = record {
         sizes = g.call.given.sizes;
         read = g.call.given.read;
@@ -309,70 +309,70 @@ module _ {choice : Choice} {words choices tokens input memo₀ : List ℕ} {A fr
         short = g.call.given.short;
         sound = v.sound;
       };
-      named = (known-here (Nonterminal B) running-within nonterminal-there).0;
+      named = (known_here (Nonterminal B) running_within nonterminal_there).0;
       placed = v.placed;
     }
 
-    pub running-small : B < maxNonterminals
-    running-small = omega (arith, (known-here (Nonterminal B) running-within nonterminal-there).0, (r g).nonterminals, (r g).fewNonterminals)
+    pub running_small : B < max_nonterminals
+    running_small = omega (arith, (known_here (Nonterminal B) running_within nonterminal_there).0, (r g).nonterminals, (r g).few_nonterminals)
 
-    pub running-falls : level words input B place < level words input A start
+    pub running_falls : level words input B place < level words input A start
     unfolding measure
-    running-falls =
-        level-onward (grammarOf words) (r g).formed.scoped g.call.given.free A B (length input) start place
-        (known-here (Nonterminal B) running-within nonterminal-there).0 v.behind v.placed
-        (λ e. front-here (Nonterminal B) running-within nonterminal-there e B here)
+    running_falls =
+        level_onward (grammar_of words) (r g).formed.scoped g.call.given.free A B (length input) start place
+        (known_here (Nonterminal B) running_within nonterminal_there).0 v.behind v.placed
+        (λ e. front_here (Nonterminal B) running_within nonterminal_there e B here)
 
     abbrev came : Outcome
-    came = descend (grammarOf words) choice input B place
+    came = descend (grammar_of words) choice input B place
 
     forward : (e : ℕ) → T (ends_at came e) → (place ≤ e) × (e ≤ length input)
-    forward e t = descend-forward (grammarOf words) choice input g.call.given.own B place e v.placed t
+    forward e t = descend_forward (grammar_of words) choice input g.call.given.own B place e v.placed t
 
     -- its outcome, by the entry that the call returns
     module _ {entry : ℕ} {memo' : List ℕ} (d : CallDone choice words input memo B place entry memo') where
       means : decode entry ≡ came
-      means = ap decode d.told ∙ decode-encode (length input) came (omega (arith, g.call.given.short)) (λ e t. (forward e t).1)
+      means = ap decode d.told ∙ decode_encode (length input) came (omega (arith, g.call.given.short)) (λ e t. (forward e t).1)
 
       called : (n : ℕ) → level words input A start ≤ n → deep choice words input n B place memo ≡ memoized came memo'
-      called n l = d.model n (omega (arith, running-falls))
+      called n l = d.model n (omega (arith, running_falls))
 
       -- one that ends
-      call-goes : (e : ℕ) → decode entry ≡ End e → Running choice words input memo₀ A from start memo' (at + 1) e
-      unfolding memoRun and_then
-      call-goes e q =
+      call_goes : (e : ℕ) → decode entry ≡ End e → Running choice words input memo₀ A from start memo' (at + 1) e
+      unfolding memo_run and_then
+      call_goes e q =
           let m : came ≡ End e = sym means ∙ q in
-          let f = forward e (end-ends came e m) in
+          let f = forward e (end_ends came e m) in
           record {
             behind = omega (arith, v.behind);
             placed = f.1;
             sound = d.sound;
-            rest = λ n l. rest-here (Nonterminal B) running-within nonterminal-there n l ∙ rw (called n l, m);
-            known = (known-here (Nonterminal B) running-within nonterminal-there).1;
-            own = own-here (Nonterminal B) running-within nonterminal-there;
+            rest = λ n l. rest_here (Nonterminal B) running_within nonterminal_there n l ∙ rw (called n l, m);
+            known = (known_here (Nonterminal B) running_within nonterminal_there).1;
+            own = own_here (Nonterminal B) running_within nonterminal_there;
             front = λ s C l.
                 let i : place ≡ start = omega (arith, v.behind) in
                 let j : e ≡ place = omega arith in
-                let idle : T (nullable (grammarOf words) B) =
-                descend-null (grammarOf words) choice input g.call.given.own (r g).formed.scoped B place place v.placed
-                refl (end-ends came place (m ∙ ap End j)) in
-                front-here (Nonterminal B) running-within nonterminal-there i C (there idle l);
+                let idle : T (nullable (grammar_of words) B) =
+                descend_null (grammar_of words) choice input g.call.given.own (r g).formed.scoped B place place v.placed
+                refl (end_ends came place (m ∙ ap End j)) in
+                front_here (Nonterminal B) running_within nonterminal_there i C (there idle l);
             progress = v.progress;
-            reads = next-reads (Nonterminal B) running-within nonterminal-there;
+            reads = next_reads (Nonterminal B) running_within nonterminal_there;
             unclosed = v.unclosed;
-            skipped = next-skipped (Nonterminal B) running-within nonterminal-there;
+            skipped = next_skipped (Nonterminal B) running_within nonterminal_there;
           }
 
       -- one that fails
-      call-fails : decode entry ≡ Failed → RunDone choice words input memo₀ A from start (stopped failedCode (at + 1)) memo'
-      unfolding body_at memoRun and_then
-      call-fails q = record {
-        model = λ n l. rest-here (Nonterminal B) running-within nonterminal-there n l ∙ rw (called n l, sym means ∙ q, failed-code);
+      call_fails : decode entry ≡ Failed → RunDone choice words input memo₀ A from start (stopped failed_code (at + 1)) memo'
+      unfolding body_at memo_run and_then
+      call_fails q = record {
+        model = λ n l. rest_here (Nonterminal B) running_within nonterminal_there n l ∙ rw (called n l, sym means ∙ q, failed_code_lem);
         sound = d.sound;
-        within = λ e q. absurd (failed-end e (sym failed-code ∙ q));
-        skipped = next-skipped (Nonterminal B) running-within nonterminal-there;
+        within = λ e q. absurd (failed_end e (sym failed_code_lem ∙ q));
+        skipped = next_skipped (Nonterminal B) running_within nonterminal_there;
         over = λ n. absurd (n refl);
       }
 
-      pub call-read : Read choice words input memo₀ A from start memo' (at + 1) entry
-      call-read = record { sound = d.sound; goes = call-goes; fails = call-fails }
+      pub call_read : Read choice words input memo₀ A from start memo' (at + 1) entry
+      call_read = record { sound = d.sound; goes = call_goes; fails = call_fails }

@@ -3,8 +3,8 @@ use mathlib.Core.Path.{◌≡◌, refl}
 use Rattle.answer.specs.declared.Error.TheVariants.{Conflict}
 use Rattle.text.specs.Ascii.{ascii}
 use Rattle.text.specs.Decimal.{digits, decimal}
-use Rattle.refusal_text.specs.Refusal.{refusalText}
+use Rattle.refusal_text.specs.Refusal.{refusal_text}
 
-refusal : refusalText (Conflict 1 2) ≡ ascii "refused 9 34\n"
-unfolding refusalText decimal digits
+refusal : refusal_text (Conflict 1 2) ≡ ascii "refused 9 34\n"
+unfolding refusal_text decimal digits
 refusal = refl

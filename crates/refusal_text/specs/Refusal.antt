@@ -5,5 +5,5 @@ use Rattle.answer.specs.Numbers.{coded}
 use Rattle.text.specs.Ascii.{ascii}
 use Rattle.text.specs.Decimal.{labelled}
 
-unfoldable pub refusalText : Error → List ℕ
-refusalText e = labelled "refused " (coded e).code ++ labelled " " (coded e).position ++ ascii "\n"
+unfoldable pub refusal_text : Error → List ℕ
+refusal_text e = labelled "refused " (coded e).code ++ labelled " " (coded e).position ++ ascii "\n"

@@ -1,8 +1,8 @@
 // What the programs print: from the bytes of files to the bytes of the text.
 ghost use Rattle.event.specs.Events.{input_of};
-ghost use Rattle.gaps_text_promises.specs.contracts.Gaps.{GapsPut};
+ghost use Rattle.gaps_text_promises.specs.inner.Gaps.{GapsPut};
 ghost use Rattle.text.specs.Writing.{Put};
-ghost use Rattle.report_texts.specs.Texts.{checkedText, judgedText};
+ghost use Rattle.report_texts.specs.Texts.{checked_text, judged_text};
 ghost use Rattle.report_texts.specs.Report.{SheetPrinted, JudgementPrinted, GapsPrinted};
 
 use answer::Error;
@@ -59,7 +59,7 @@ pub fn gaps(bytes: &[u8], out: &mut [u8]) -> usize
 }
 
 fn put_checked(words: &[u32], out: &mut [u8]) -> usize
-    ensures { Put out.old 0 (checkedText words.now) out.new result }
+    ensures { Put out.old 0 (checked_text words.now) out.new result }
 {
     let mut table = [NO_ENTRY; TABLE_WORDS];
     let mut starts = [0usize; RULES];
@@ -79,7 +79,7 @@ fn put_checked(words: &[u32], out: &mut [u8]) -> usize
 }
 
 fn put_judged(words: &[u32], events: &[u8], out: &mut [u8]) -> usize
-    ensures { Put out.old 0 (judgedText words.now (input_of events.now)) out.new result }
+    ensures { Put out.old 0 (judged_text words.now (input_of events.now)) out.new result }
 {
     let mut memo = [UNCALLED; MEMO_ENTRIES];
     let found = descend_words(words, Lookahead::One, events, &mut memo);

@@ -9,123 +9,123 @@ use borrow.Author.Tests.{le-leb}
 use Rattle.answer.specs.declared.Error.{Error}
 use Rattle.answer.specs.declared.Answer.{Answer}
 use Rattle.event.specs.Events.{input_of}
-use Rattle.event.proofs.Inputs.{input-length}
-use Rattle.grammar.specs.Limits.{maxTokens, maxMemoEntries, maxTableWords}
-use Rattle.grammar.specs.Encoding.{grammarOf}
+use Rattle.event.proofs.Inputs.{input_length}
+use Rattle.grammar.specs.Limits.{max_tokens, max_memo_entries, max_table_words}
+use Rattle.grammar.specs.Encoding.{grammar_of}
 use Rattle.grammar.specs.Reading.{reading}
 use Rattle.grammar.specs.declared.reading.Reading.{Reading}
 use Rattle.grammar.specs.declared.reading.Reading.TheVariants.{Read, Faulty}
-use Rattle.grammar.proofs.WellRead.{well-read}
+use Rattle.grammar.proofs.WellRead.{well_read}
 use Rattle.lookahead.specs.declared.Lookahead.TheVariants.{One}
 use Rattle.families.specs.declared.Finding.{Finding}
 use Rattle.families.specs.declared.Finding.TheVariants.{Passed, Refused}
-use Rattle.families.specs.Analysis.{findingOf}
+use Rattle.families.specs.Analysis.{finding_of}
 use Rattle.table.specs.declared.Found.{Found}
 use Rattle.table_promises.specs.Analysis.{fault}
-use Rattle.table.specs.contracts.Analysis.{foundOf}
-use Rattle.table_promises.specs.Layout.{tableWords}
-use Rattle.table.proofs.Analyzing.{entries-told}
-use Rattle.lending.specs.contracts.Lending.{lent_of}
-use Rattle.lending.proofs.WordsLaid.{lent-table, lent_nothing}
-use Rattle.answer.specs.Faults.{refusedOr}
-use Rattle.recognizer_promises.specs.Answers.{checkFault, judgeFault, verdictOf}
-use Rattle.recognizer_promises.specs.contracts.Judging.{memoFault, foundUnless, DescendsWords}
-use Rattle.promises.specs.Memory.{lentBack}
-use Rattle.recognizer_promises.specs.Memory.{memoWords}
-use Rattle.recognizer_promises.proofs.JudgeFaults.{judge-table-long, judged-readable}
-use Rattle.recognizer_promises.proofs.Checking.{told, found-fault, check-fault-long, passed-fault, passed-read}
-use Rattle.judge_answers.specs.contracts.Answers.{answer_of}
+use Rattle.table.specs.inner.Analysis.{found_of}
+use Rattle.table_promises.specs.Layout.{table_words}
+use Rattle.table.proofs.Analyzing.{entries_told}
+use Rattle.lending.specs.inner.Lending.{lent_of}
+use Rattle.lending.proofs.WordsLaid.{lent_table, lent_nothing}
+use Rattle.answer.specs.Faults.{refused_or}
+use Rattle.recognizer_promises.specs.Answers.{check_fault, judge_fault, verdict_of}
+use Rattle.recognizer_promises.specs.inner.Judging.{memo_fault, found_unless, DescendsWords}
+use Rattle.promises.specs.Memory.{lent_back}
+use Rattle.recognizer_promises.specs.Memory.{memo_words}
+use Rattle.recognizer_promises.proofs.JudgeFaults.{judge_table_long, judged_readable}
+use Rattle.recognizer_promises.proofs.Checking.{told, found_fault, check_fault_long, passed_fault, passed_read}
+use Rattle.judge_answers.specs.inner.Answers.{answer_of}
 use Rattle.judge_answers.proofs.Answered.{answered}
 use Rattle.text.specs.Writing.{Put}
-use Rattle.sheet_text.specs.Sheet.{checkText}
-use Rattle.sheet_text.specs.contracts.Limited.{limitedFinding}
-use Rattle.sheet_text.proofs.Limited.{limited-same}
-use Rattle.judgement_text.specs.Judgement.{judgementText}
-use Rattle.report_texts.specs.Texts.{blankTable, checkedTable, blankMemo, checkedText, judgedText}
-use Rattle.judgement_text.specs.contracts.Sizes.{nonterminalsOf, tokenCount}
+use Rattle.sheet_text.specs.Sheet.{check_text}
+use Rattle.sheet_text.specs.inner.Limited.{limited_finding}
+use Rattle.sheet_text.proofs.Limited.{limited_same}
+use Rattle.judgement_text.specs.Judgement.{judgement_text}
+use Rattle.report_texts.specs.Texts.{blank_table, checked_table, blank_memo, checked_text, judged_text}
+use Rattle.judgement_text.specs.inner.Sizes.{nonterminals_of, token_count}
 
 -- the sizes that are read are within the limits
-limited-found : (words : List ℕ) (f : Option Error) → limitedFinding (findingOf f (reading words)) ≡ findingOf f (reading words)
-limited-found words f = go f (reading words) refl
+limited_found : (words : List ℕ) (f : Option Error) → limited_finding (finding_of f (reading words)) ≡ finding_of f (reading words)
+limited_found words f = go f (reading words) refl
   where
-    go : (f : Option Error) (o : Reading) → reading words ≡ o → limitedFinding (findingOf f o) ≡ findingOf f o
+    go : (f : Option Error) (o : Reading) → reading words ≡ o → limited_finding (finding_of f o) ≡ finding_of f o
     go (some x) o r = refl
     go none (Faulty x) r = refl
-    go none (Read z) r = let k = well-read words z r in limited-same (record { fewNonterminals = k.fewNonterminals; fewTerminals = k.fewTerminals })
+    go none (Read z) r = let k = well_read words z r in limited_same (record { few_nonterminals = k.few_nonterminals; few_terminals = k.few_terminals })
 
 -- what checking finds and lends
-module _ (words : List ℕ) (size : length blankTable ≡ maxTableWords) {r : Found} (e : r ≡ foundOf One words) where
-  fault-long : checkFault One maxTableWords words ≡ fault One words
-  fault-long = check-fault-long One maxTableWords words (omega arith)
+module _ (words : List ℕ) (size : length blank_table ≡ max_table_words) {r : Found} (e : r ≡ found_of One words) where
+  fault_long : check_fault One max_table_words words ≡ fault One words
+  fault_long = check_fault_long One max_table_words words (omega arith)
 
-  found-checked : r.finding ≡ findingOf (checkFault One maxTableWords words) (reading words)
-  found-checked = (told One words e).finding ∙ ap (λ f. findingOf f (reading words)) (sym fault-long)
+  found_checked : r.finding ≡ finding_of (check_fault One max_table_words words) (reading words)
+  found_checked = (told One words e).finding ∙ ap (λ f. finding_of f (reading words)) (sym fault_long)
 
-  lent_by : {f : Option Error} → fault One words ≡ f → {table : List ℕ} → table ≡ lentBack f (tableWords One (grammarOf words)) blankTable
-      → table ≡ checkedTable words
-  lent_by q t = t ∙ ap (λ f. lentBack f (tableWords One (grammarOf words)) blankTable) (sym (fault-long ∙ q))
+  lent_by : {f : Option Error} → fault One words ≡ f → {table : List ℕ} → table ≡ lent_back f (table_words One (grammar_of words)) blank_table
+      → table ≡ checked_table words
+  lent_by q t = t ∙ ap (λ f. lent_back f (table_words One (grammar_of words)) blank_table) (sym (fault_long ∙ q))
 
-  lent-checked : lent_of One r blankTable ≡ checkedTable words
-  lent-checked = go r.finding refl
+  lent_checked : lent_of One r blank_table ≡ checked_table words
+  lent_checked = go r.finding refl
     where
-      go : (f : Finding) → r.finding ≡ f → lent_of One r blankTable ≡ checkedTable words
-      go (Passed z) p = let m = entries-told One words e p in lent_by m.faultless (lent-table m blankTable (omega arith) p)
-      go (Refused x) p = lent_by (found-fault (told One words e) p) (lent_nothing One r blankTable p)
+      go : (f : Finding) → r.finding ≡ f → lent_of One r blank_table ≡ checked_table words
+      go (Passed z) p = let m = entries_told One words e p in lent_by m.faultless (lent_table m blank_table (omega arith) p)
+      go (Refused x) p = lent_by (found_fault (told One words e) p) (lent_nothing One r blank_table p)
 
 -- there are as many tokens as events
-tokens-same : (events : List ℕ) → tokenCount events ≡ tokenCount (input_of events)
-unfolding tokenCount
-tokens-same events = rw (input-length events)
+tokens_same : (events : List ℕ) → token_count events ≡ token_count (input_of events)
+unfolding token_count
+tokens_same events = rw (input_length events)
 
 -- the numbers of nonterminals and tokens are those printed, wherever judging is not refused
-found-nonterminals : (words : List ℕ) → fault One words ≡ none → nonterminalsOf (foundOf One words).finding ≡ (grammarOf words).nonterminals
-unfolding foundOf
-found-nonterminals words e = ap₂ (λ f o. nonterminalsOf (findingOf f o)) e (passed-read words (passed-fault One words e))
+found_nonterminals : (words : List ℕ) → fault One words ≡ none → nonterminals_of (found_of One words).finding ≡ (grammar_of words).nonterminals
+unfolding found_of
+found_nonterminals words e = ap₂ (λ f o. nonterminals_of (finding_of f o)) e (passed_read words (passed_fault One words e))
 
-abbrev judgedNonterminals : List ℕ → Option Error → ℕ
-judgedNonterminals words f = nonterminalsOf (foundUnless f (foundOf One words)).finding
+abbrev judged_nonterminals : List ℕ → Option Error → ℕ
+judged_nonterminals words f = nonterminals_of (found_unless f (found_of One words)).finding
 
 module _ (words input memo : List ℕ) (v : Answer) where
   abbrev f : Option Error
-  f = judgeFault One maxTableWords maxMemoEntries words input
+  f = judge_fault One max_table_words max_memo_entries words input
 
-  same-sizes : (g : Option Error) → f ≡ g
-      → judgementText (refusedOr f v) (judgedNonterminals words f) (tokenCount input) memo
-      ≡ judgementText (refusedOr f v) (grammarOf words).nonterminals (length input) memo
-  unfolding judgementText tokenCount
-  same-sizes (some x) e = rw e
-  same-sizes none e =
-      let k = judged-readable One words input maxTableWords maxMemoEntries e in
-      let n : judgedNonterminals words f ≡ (grammarOf words).nonterminals = ap (judgedNonterminals words) e ∙ found-nonterminals words k.0 in
-      let t : tokenCount input ≡ length input = rw (le-leb (length input) maxTokens k.1) in
-      ap₂ (λ a b. judgementText (refusedOr f v) a b memo) n t
+  same_sizes : (g : Option Error) → f ≡ g
+      → judgement_text (refused_or f v) (judged_nonterminals words f) (token_count input) memo
+      ≡ judgement_text (refused_or f v) (grammar_of words).nonterminals (length input) memo
+  unfolding judgement_text token_count
+  same_sizes (some x) e = rw e
+  same_sizes none e =
+      let k = judged_readable One words input max_table_words max_memo_entries e in
+      let n : judged_nonterminals words f ≡ (grammar_of words).nonterminals = ap (judged_nonterminals words) e ∙ found_nonterminals words k.0 in
+      let t : token_count input ≡ length input = rw (le-leb (length input) max_tokens k.1) in
+      ap₂ (λ a b. judgement_text (refused_or f v) a b memo) n t
 
 module _ {l m : List ℕ} {k : ℕ} where
-  pub put-checked-text : (words : List ℕ) {table : List ℕ} {r : Found} → length blankTable ≡ maxTableWords → r ≡ foundOf One words
-      → table ≡ lent_of One r blankTable → Put l 0 (checkText (limitedFinding r.finding) table) m k → Put l 0 (checkedText words) m k
-  unfolding checkedText
-  put-checked-text words size e t p =
-      let f = checkFault One maxTableWords words in
-      let a = ap limitedFinding (found-checked words size e) ∙ limited-found words f in
-      subst (λ x. Put l 0 x m k) (ap₂ checkText a (t ∙ lent-checked words size e)) p
+  pub put_checked_text : (words : List ℕ) {table : List ℕ} {r : Found} → length blank_table ≡ max_table_words → r ≡ found_of One words
+      → table ≡ lent_of One r blank_table → Put l 0 (check_text (limited_finding r.finding) table) m k → Put l 0 (checked_text words) m k
+  unfolding checked_text
+  put_checked_text words size e t p =
+      let f = check_fault One max_table_words words in
+      let a = ap limited_finding (found_checked words size e) ∙ limited_found words f in
+      subst (λ x. Put l 0 x m k) (ap₂ check_text a (t ∙ lent_checked words size e)) p
 
-  pub put-judged-text : {words memo : List ℕ} (events : List ℕ) {r : Found} {a : Answer} {nonterminals tokens : ℕ} → length blankMemo ≡ maxMemoEntries
-      → nonterminals ≡ nonterminalsOf r.finding → tokens ≡ tokenCount events → DescendsWords One words (input_of events) blankMemo r memo
+  pub put_judged_text : {words memo : List ℕ} (events : List ℕ) {r : Found} {a : Answer} {nonterminals tokens : ℕ} → length blank_memo ≡ max_memo_entries
+      → nonterminals ≡ nonterminals_of r.finding → tokens ≡ token_count events → DescendsWords One words (input_of events) blank_memo r memo
       → a ≡ answer_of r.finding (length events) memo
-      → Put l 0 (judgementText a nonterminals tokens memo) m k → Put l 0 (judgedText words (input_of events)) m k
-  unfolding judgedText
-  put-judged-text {words} {memo} events {r} {a} room n w j v p =
+      → Put l 0 (judgement_text a nonterminals tokens memo) m k → Put l 0 (judged_text words (input_of events)) m k
+  unfolding judged_text
+  put_judged_text {words} {memo} events {r} {a} room n w j v p =
       let input = input_of events in
-      let G = grammarOf words in
-      let g = judgeFault One maxTableWords maxMemoEntries words input in
-      let same : memoFault One (length blankMemo) words input ≡ g =
-      ap (λ b. memoFault One b words input) room ∙ sym (judge-table-long One maxTableWords maxMemoEntries words input (omega arith)) in
-      let readable = judged-readable One words input maxTableWords maxMemoEntries in
-      let b : memo ≡ lentBack g (memoWords One G input) blankMemo = j.lent ∙ ap (λ y. lentBack y (memoWords One G input) blankMemo) same in
-      let c : r ≡ foundUnless g (foundOf One words) = j.grammar ∙ ap (λ y. foundUnless y (foundOf One words)) same in
-      let told : a ≡ refusedOr g (verdictOf One G input) =
-      v ∙ answered One words input blankMemo (length events) g (λ q. ((readable q).0, (readable q).1, sym (input-length events))) c b in
-      let n' = n ∙ ap (λ y. nonterminalsOf y.finding) c in
-      let t = ap₂ (λ x y. judgementText x (judgedNonterminals words g) (tokenCount input) y) told b
-      ∙ same-sizes words input (lentBack g (memoWords One G input) blankMemo) (verdictOf One G input) g refl in
-      subst (λ x. Put l 0 x m k) t (rw (n', w ∙ tokens-same events) at p)
+      let G = grammar_of words in
+      let g = judge_fault One max_table_words max_memo_entries words input in
+      let same : memo_fault One (length blank_memo) words input ≡ g =
+      ap (λ b. memo_fault One b words input) room ∙ sym (judge_table_long One max_table_words max_memo_entries words input (omega arith)) in
+      let readable = judged_readable One words input max_table_words max_memo_entries in
+      let b : memo ≡ lent_back g (memo_words One G input) blank_memo = j.lent ∙ ap (λ y. lent_back y (memo_words One G input) blank_memo) same in
+      let c : r ≡ found_unless g (found_of One words) = j.grammar ∙ ap (λ y. found_unless y (found_of One words)) same in
+      let told : a ≡ refused_or g (verdict_of One G input) =
+      v ∙ answered One words input blank_memo (length events) g (λ q. ((readable q).0, (readable q).1, sym (input_length events))) c b in
+      let n' = n ∙ ap (λ y. nonterminals_of y.finding) c in
+      let t = ap₂ (λ x y. judgement_text x (judged_nonterminals words g) (token_count input) y) told b
+      ∙ same_sizes words input (lent_back g (memo_words One G input) blank_memo) (verdict_of One G input) g refl in
+      subst (λ x. Put l 0 x m k) t (rw (n', w ∙ tokens_same events) at p)

@@ -13,16 +13,16 @@ use Rattle.answer.specs.declared.Error.{Error}
 use Rattle.answer.specs.declared.Error.TheVariants.{Length, InputTooLong}
 use Rattle.base.specs.Choice.{choose}
 use Rattle.event.specs.Events.{input_of}
-use Rattle.event.proofs.Inputs.{input-length}
-use Rattle.grammar.specs.Limits.{maxWords, maxTokens, maxMemoEntries, maxTableWords}
-use Rattle.file_words.specs.Words.{bytesOfWord, words_of, areWords}
-use Rattle.refusal_text.specs.Refusal.{refusalText}
+use Rattle.event.proofs.Inputs.{input_length}
+use Rattle.grammar.specs.Limits.{max_words, max_tokens, max_memo_entries, max_table_words}
+use Rattle.file_words.specs.Words.{bytes_of_word, words_of, are_words}
+use Rattle.refusal_text.specs.Refusal.{refusal_text}
 use Rattle.lookahead.specs.declared.Lookahead.TheVariants.{One}
 use Rattle.table_promises.specs.Analysis.{fault}
-use Rattle.judgement_text.specs.Judgement.{judgementText}
-use Rattle.recognizer_promises.specs.Answers.{judgeFault}
-use Rattle.recognizer_promises.proofs.JudgeFaults.{judged-rows}
-use Rattle.report_texts.specs.Texts.{sheetOf, judgedText, judgementOf, gapsOf, enoughRead}
+use Rattle.judgement_text.specs.Judgement.{judgement_text}
+use Rattle.recognizer_promises.specs.Answers.{judge_fault}
+use Rattle.recognizer_promises.proofs.JudgeFaults.{judged_rows}
+use Rattle.report_texts.specs.Texts.{sheet_of, judged_text, judgement_of, gaps_of, enough_read}
 use Rattle.report_texts.specs.Report.{Enough}
 
 -- a function that does not tell lists longer than a limit apart is the same of a list cut past the limit
@@ -39,50 +39,50 @@ cut f limit n h same l = go (dec_lt limit (length l))
     go (no u) = ap f (take_all n l (omega arith))
 
 -- a file that is too long is no row of words
-not-words : (bytes : List ℕ) → bytesOfWord * maxWords < length bytes → areWords bytes ≡ false
-unfolding areWords
-not-words bytes h = rw (lt-leb (length bytes) (bytesOfWord * maxWords) h)
+not_words : (bytes : List ℕ) → bytes_of_word * max_words < length bytes → are_words bytes ≡ false
+unfolding are_words
+not_words bytes h = rw (lt-leb (length bytes) (bytes_of_word * max_words) h)
 
 -- what is reported of an input that is too long: the grammar's fault, or else its length
-abbrev orLong : Option Error → Error
-orLong none = InputTooLong
-orLong (some e) = e
+abbrev or_long : Option Error → Error
+or_long none = InputTooLong
+or_long (some e) = e
 
-long-fault : (words input : List ℕ) → maxTokens < length input → (f : Option Error) → fault One words ≡ f
-    → judgeFault One maxTableWords maxMemoEntries words input ≡ some (orLong f)
-long-fault words input h (some x) e = rw (judged-rows One maxTableWords maxMemoEntries words input, e)
-long-fault words input h none e = rw (judged-rows One maxTableWords maxMemoEntries words input, e, lt-ltb maxTokens (length input) h)
+long_fault : (words input : List ℕ) → max_tokens < length input → (f : Option Error) → fault One words ≡ f
+    → judge_fault One max_table_words max_memo_entries words input ≡ some (or_long f)
+long_fault words input h (some x) e = rw (judged_rows One max_table_words max_memo_entries words input, e)
+long_fault words input h none e = rw (judged_rows One max_table_words max_memo_entries words input, e, lt-ltb max_tokens (length input) h)
 
-long-text : (words events : List ℕ) → maxTokens < length events → judgedText words (input_of events) ≡ refusalText (orLong (fault One words))
-unfolding judgedText judgementText
-long-text words events h = rw (long-fault words (input_of events) (omega (arith, input-length events)) (fault One words) refl)
+long_text : (words events : List ℕ) → max_tokens < length events → judged_text words (input_of events) ≡ refusal_text (or_long (fault One words))
+unfolding judged_text judgement_text
+long_text words events h = rw (long_fault words (input_of events) (omega (arith, input_length events)) (fault One words) refl)
 
 -- what is refused as no row of words is the same of every file that is too long
-file-cut : (f : List ℕ → List ℕ) (file : ℕ) → bytesOfWord * maxWords < file
-    → ((l : List ℕ) → areWords l ≡ false → f l ≡ refusalText Length) → (bytes : List ℕ) → f (take file bytes) ≡ f bytes
-file-cut f file long same = cut f (bytesOfWord * maxWords) file long (λ l m h k. same l (not-words l h) ∙ sym (same m (not-words m k)))
+file_cut : (f : List ℕ → List ℕ) (file : ℕ) → bytes_of_word * max_words < file
+    → ((l : List ℕ) → are_words l ≡ false → f l ≡ refusal_text Length) → (bytes : List ℕ) → f (take file bytes) ≡ f bytes
+file_cut f file long same = cut f (bytes_of_word * max_words) file long (λ l m h k. same l (not_words l h) ∙ sym (same m (not_words m k)))
 
-module _ (file tokens : ℕ) (long : bytesOfWord * maxWords < file) (over : maxTokens < tokens) where
-  pub sheet-enough : (bytes : List ℕ) → sheetOf (take file bytes) ≡ sheetOf bytes
-  unfolding sheetOf
-  sheet-enough = file-cut sheetOf file long (λ l e. rw e)
+module _ (file tokens : ℕ) (long : bytes_of_word * max_words < file) (over : max_tokens < tokens) where
+  pub sheet_enough : (bytes : List ℕ) → sheet_of (take file bytes) ≡ sheet_of bytes
+  unfolding sheet_of
+  sheet_enough = file_cut sheet_of file long (λ l e. rw e)
 
-  pub gaps-enough : (bytes : List ℕ) → gapsOf (take file bytes) ≡ gapsOf bytes
-  unfolding gapsOf
-  gaps-enough = file-cut gapsOf file long (λ l e. rw e)
+  pub gaps_enough : (bytes : List ℕ) → gaps_of (take file bytes) ≡ gaps_of bytes
+  unfolding gaps_of
+  gaps_enough = file_cut gaps_of file long (λ l e. rw e)
 
-  pub judgement-enough : (bytes events : List ℕ) → judgementOf (take file bytes) (take tokens events) ≡ judgementOf bytes events
-  unfolding judgementOf
-  judgement-enough bytes events =
-      file-cut (λ b. judgementOf b (take tokens events)) file long (λ l e. rw e) bytes
-      ∙ ap (λ t. choose (areWords bytes) t (refusalText Length))
-      (cut (λ l. judgedText (words_of bytes) (input_of l)) maxTokens tokens over
-      (λ l m h k. long-text (words_of bytes) l h ∙ sym (long-text (words_of bytes) m k)) events)
+  pub judgement_enough : (bytes events : List ℕ) → judgement_of (take file bytes) (take tokens events) ≡ judgement_of bytes events
+  unfolding judgement_of
+  judgement_enough bytes events =
+      file_cut (λ b. judgement_of b (take tokens events)) file long (λ l e. rw e) bytes
+      ∙ ap (λ t. choose (are_words bytes) t (refusal_text Length))
+      (cut (λ l. judged_text (words_of bytes) (input_of l)) max_tokens tokens over
+      (λ l m h k. long_text (words_of bytes) l h ∙ sym (long_text (words_of bytes) m k)) events)
 
-pub enough : Enough enoughRead
+pub enough : Enough enough_read
 enough = record {
   lengths = refl;
-  sheet = sheet-enough enoughRead.file enoughRead.input (omega arith) (omega arith);
-  judgement = judgement-enough enoughRead.file enoughRead.input (omega arith) (omega arith);
-  gaps = gaps-enough enoughRead.file enoughRead.input (omega arith) (omega arith);
+  sheet = sheet_enough enough_read.file enough_read.input (omega arith) (omega arith);
+  judgement = judgement_enough enough_read.file enough_read.input (omega arith) (omega arith);
+  gaps = gaps_enough enough_read.file enough_read.input (omega arith) (omega arith);
 }

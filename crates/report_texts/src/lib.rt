@@ -1,6 +1,6 @@
 // How long the texts that the programs print can be, and how much of a file need be read.
 ghost use Rattle.std.specs.Prelude.{◌≡◌};
-ghost use Rattle.report_texts.specs.Texts.{enoughRoom};
+ghost use Rattle.report_texts.specs.Texts.{enough_room};
 ghost use Rattle.report_texts.specs.Report.{Enough};
 
 use file_words::WORD_BYTES;
@@ -22,7 +22,7 @@ pub struct Rooms {
 
 // The three in one value, so that what the specifications say of room is proved of these.
 pub fn enough_room() -> Rooms
-    ensures { result ≡ enoughRoom }
+    ensures { result ≡ enough_room }
 {
     Rooms {
         sheet: SHEET_ROOM,

@@ -1,10 +1,10 @@
 // The first set of what is left of a body and of a rule, made longer by one word at a time from the end.
 ghost use Rattle.std.specs.Prelude.{◌≡◌};
-ghost use Rattle.lookahead.specs.contracts.Operations.{concatNumbers};
-ghost use Rattle.families.specs.contracts.First.{symbolFirst, noRest, closedMeet, insideWord};
-ghost use Rattle.families.specs.contracts.Follow.{tailBefore};
-ghost use Rattle.families.specs.contracts.Least.{lookup};
-ghost use Rattle.families.specs.contracts.Rules.{foldFromEnd};
+ghost use Rattle.lookahead.specs.inner.Operations.{concat_numbers};
+ghost use Rattle.families.specs.inner.First.{symbol_first, no_rest, closed_meet, inside_word};
+ghost use Rattle.families.specs.inner.Follow.{tail_before};
+ghost use Rattle.families.specs.inner.Least.{lookup};
+ghost use Rattle.families.specs.inner.Rules.{fold_from_end};
 
 use concatenation::{behind_terminal, concat, full};
 use families::{Rest, SETS};
@@ -22,7 +22,7 @@ fn set_of(sets: &[u64; SETS], n: u32) -> u64
 
 // Where neither a body nor a rule is open.
 fn no_rest(terminals: u32, lookahead: Lookahead) -> Rest
-    ensures { result ≡ noRest lookahead terminals }
+    ensures { result ≡ no_rest lookahead terminals }
 {
     Rest {
         body: LookaheadSet::end(lookahead),
@@ -37,7 +37,7 @@ fn behind(
     lookahead: Lookahead,
     rest: LookaheadSet,
 ) -> LookaheadSet
-    ensures { result.bits ≡ concatNumbers lookahead (symbolFirst lookahead (lookup firsts.now) symbol) rest.bits }
+    ensures { result.bits ≡ concat_numbers lookahead (symbol_first lookahead (lookup firsts.now) symbol) rest.bits }
 {
     match symbol {
         Symbol::Terminal(number) => behind_terminal(number, lookahead, rest),
@@ -52,7 +52,7 @@ fn behind(
 
 // A body ends: if it is a positive, its first set goes into the meet.
 fn closed(word: Word, body: LookaheadSet, meet: LookaheadSet) -> LookaheadSet
-    ensures { result.bits ≡ closedMeet word body.bits meet.bits }
+    ensures { result.bits ≡ closed_meet word body.bits meet.bits }
 {
     let Word::Positive = word else {
         return meet;
@@ -62,7 +62,7 @@ fn closed(word: Word, body: LookaheadSet, meet: LookaheadSet) -> LookaheadSet
 
 // The rest with a word inside a rule in front.
 fn inside(word: Word, rest: Rest, firsts: &[u64; SETS], lookahead: Lookahead) -> Rest
-    ensures { result ≡ insideWord lookahead (lookup firsts.now) word rest }
+    ensures { result ≡ inside_word lookahead (lookup firsts.now) word rest }
 {
     let body = rest.body;
     let meet = rest.meet;
@@ -86,7 +86,7 @@ pub fn rule_first(
     lookahead: Lookahead,
 ) -> LookaheadSet
     ensures { result.bits
-        ≡ (foldFromEnd (insideWord lookahead (lookup firsts.now)) (noRest lookahead terminals) words.now).meet.bits }
+        ≡ (fold_from_end (inside_word lookahead (lookup firsts.now)) (no_rest lookahead terminals) words.now).meet.bits }
 {
     let mut rest = no_rest(terminals, lookahead);
     let mut at = words.len();
@@ -106,7 +106,7 @@ pub fn tail_before(
     firsts: &[u64; SETS],
     lookahead: Lookahead,
 ) -> LookaheadSet
-    ensures { result.bits ≡ tailBefore lookahead (lookup firsts.now) follow.bits word tail.bits }
+    ensures { result.bits ≡ tail_before lookahead (lookup firsts.now) follow.bits word tail.bits }
 {
     let Word::Symbol(symbol) = word else {
         return follow;

@@ -1,8 +1,8 @@
 // How the bodies of a rule, run one after the other, come to agree on an end: where a body ends, and agreements as entries of the memo table.
 ghost use Rattle.std.specs.Prelude.{◌≡◌};
-ghost use Rattle.semantics.specs.contracts.Memo.{decode as outcomeOf};
+ghost use Rattle.semantics.specs.inner.Memo.{decode as outcome_of};
 ghost use Rattle.rule.specs.declared.Sign.TheVariants.{Positive, Negative};
-ghost use Rattle.rule.specs.contracts.Rule.{bodyEnd, openingBy, keptBy, joinedBy, agreementCode, agreementOf};
+ghost use Rattle.rule.specs.inner.Rule.{body_end, opening_by, kept_by, joined_by, agreement_code, agreement_of};
 
 use grammar::codes::{FAILED, UNCALLED};
 use word::{Word, decode};
@@ -21,7 +21,7 @@ const OPEN: u16 = UNCALLED;
 
 // Where the body at an index ends.
 pub fn body_end(words: &[u32], from: usize) -> usize
-    ensures { result ≡ bodyEnd words.now from }
+    ensures { result ≡ body_end words.now from }
 {
     let mut at = from;
     while at < words.len() {
@@ -36,7 +36,7 @@ pub fn body_end(words: &[u32], from: usize) -> usize
 
 // Before the first body: a rule that begins with a negative conjunct has no positive one, and takes all up to the input's end.
 pub fn opening(sign: Sign, end: u16) -> u16
-    ensures { result ≡ agreementCode (openingBy sign end) }
+    ensures { result ≡ agreement_code (opening_by sign end) }
 {
     match sign {
         Sign::Positive => OPEN,
@@ -47,7 +47,7 @@ pub fn opening(sign: Sign, end: u16) -> u16
 
 // A later positive body has to end there.
 fn kept_positive(end: u16, there: bool) -> u16
-    ensures { result ≡ agreementCode (keptBy Positive end there) }
+    ensures { result ≡ agreement_code (kept_by Positive end there) }
 {
     if there {
         return end;
@@ -57,7 +57,7 @@ fn kept_positive(end: u16, there: bool) -> u16
 
 // A negative body must not end there.
 fn kept_negative(end: u16, there: bool) -> u16
-    ensures { result ≡ agreementCode (keptBy Negative end there) }
+    ensures { result ≡ agreement_code (kept_by Negative end there) }
 {
     if there {
         return FAILED;
@@ -66,7 +66,7 @@ fn kept_negative(end: u16, there: bool) -> u16
 }
 
 fn kept(sign: Sign, end: u16, there: bool) -> u16
-    ensures { result ≡ agreementCode (keptBy sign end there) }
+    ensures { result ≡ agreement_code (kept_by sign end there) }
 {
     match sign {
         Sign::Positive => kept_positive(end, there),
@@ -77,7 +77,7 @@ fn kept(sign: Sign, end: u16, there: bool) -> u16
 
 // The agreement after one body more, by the entry of its outcome: an open agreement becomes that entry.
 pub fn joined(sign: Sign, agreement: u16, entry: u16) -> u16
-    ensures { result ≡ agreementCode (joinedBy sign (agreementOf agreement) (outcomeOf entry)) }
+    ensures { result ≡ agreement_code (joined_by sign (agreement_of agreement) (outcome_of entry)) }
 {
     if agreement == OPEN {
         return entry;

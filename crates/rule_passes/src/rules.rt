@@ -1,8 +1,8 @@
 // The rules of a grammar, one by one: in which order passes go over them, where each and its positives end, and what it defines.
 ghost use Rattle.std.specs.Prelude.{◌≡◌, ◌||◌, ◌+◌, eqb, ltb, length};
 ghost use Rattle.base.specs.Choice.{choose};
-ghost use Rattle.grammar.specs.contracts.WellRead.{head_of};
-ghost use Rattle.families.specs.contracts.Rules.{turn_of, ruleEnd, NegativesFrom};
+ghost use Rattle.grammar.specs.inner.WellRead.{head_of};
+ghost use Rattle.families.specs.inner.Rules.{turn_of, rule_end, NegativesFrom};
 
 use grammar::limits::RULES;
 use grammar::reading::Sizes;
@@ -42,7 +42,7 @@ pub fn turn(forward: bool, rules: usize, passed: usize) -> usize
 
 // Where the words of a rule end: at the next rule, or behind the last word. Rules are counted round, which takes no test.
 pub fn end_of(words: &[u32], starts: &[usize; RULES], sizes: Sizes, rule: usize) -> usize
-    ensures { result ≡ ruleEnd words.now starts.now sizes.rules rule }
+    ensures { result ≡ rule_end words.now starts.now sizes.rules rule }
 {
     let next = rule % RULES + 1;
     if next < sizes.rules {

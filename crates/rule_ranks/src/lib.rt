@@ -1,8 +1,8 @@
 // The rules of a grammar by the rank of their nonterminals. Numbers beyond the limits stand in no grammar that is read: they are counted round, which
 // takes no test.
 ghost use Rattle.std.specs.Prelude.{◌≡◌};
-ghost use Rattle.tabular_promises.specs.contracts.Scanning.{headAt};
-ghost use Rattle.tabular_promises.specs.contracts.Filling.{rankFrom, rankBy, lastsTo, beforesTo};
+ghost use Rattle.tabular_promises.specs.inner.Scanning.{head_at};
+ghost use Rattle.tabular_promises.specs.inner.Filling.{rank_from, rank_by, lasts_to, befores_to};
 
 use families::SETS;
 use grammar::limits::{NONTERMINALS, RULES};
@@ -11,7 +11,7 @@ use word::decode;
 
 // The nonterminal of the rule that begins at an index; 0 where no rule does.
 fn head_at(words: &[u32], from: usize) -> u32
-    ensures { result ≡ headAt words.now from }
+    ensures { result ≡ head_at words.now from }
 {
     if from < words.len() {
         head_of(decode(words[from]))
@@ -22,7 +22,7 @@ fn head_at(words: &[u32], from: usize) -> u32
 
 // The rank of the nonterminal whose rule begins at an index: how many nonterminals it left-reaches.
 fn rank_at(words: &[u32], from: usize, reaches: &[u32; SETS]) -> usize
-    ensures { result ≡ rankFrom words.now reaches.now from }
+    ensures { result ≡ rank_from words.now reaches.now from }
 {
     let head = head_at(words, from) as usize;
     (u32::count_ones(reaches[head % SETS]) % NONTERMINALS) as usize
@@ -42,8 +42,8 @@ pub fn by_rank(
     rules: usize,
     reaches: &[u32; SETS],
 ) -> RankedRules
-    ensures { (result.lasts ≡ lastsTo (rankBy words.now starts.now reaches.now) rules)
-        × (result.befores ≡ beforesTo (rankBy words.now starts.now reaches.now) rules) }
+    ensures { (result.lasts ≡ lasts_to (rank_by words.now starts.now reaches.now) rules)
+        × (result.befores ≡ befores_to (rank_by words.now starts.now reaches.now) rules) }
 {
     let mut lasts = [0usize; SETS];
     let mut befores = [0usize; RULES];

@@ -1,7 +1,7 @@
 // A rule asked at one span, by a pass over its words from their end.
 ghost use Rattle.std.specs.Prelude.{◌≡◌, false, ◌≤◌, ◌<◌, length};
 ghost use Rattle.base.specs.Choice.{choose};
-ghost use Rattle.tabular_promises.specs.contracts.Scanning.{noneOpen, beforeTerminal, beforeSymbol, scanOnto, keepsBy, askedBy};
+ghost use Rattle.tabular_promises.specs.inner.Scanning.{none_open, before_terminal, before_symbol, scan_onto, keeps_by, asked_by};
 
 use chart::places::{contains, one_place};
 use chart::{CHART, before};
@@ -16,7 +16,7 @@ use word::{Symbol, Word, decode};
 
 // Where nothing of a rule is open: nothing is left of a body, and no conjunct is behind.
 fn none_open(end: usize) -> Scan
-    ensures { result ≡ noneOpen end }
+    ensures { result ≡ none_open end }
 {
     Scan {
         set: one_place(end),
@@ -26,7 +26,7 @@ fn none_open(end: usize) -> Scan
 
 // The places where the terminal stands, with a place of the set behind it.
 fn before_terminal(stands: &[u64; STANDS], terminal: u32, set: u64) -> u64
-    ensures { result ≡ beforeTerminal stands.now terminal set }
+    ensures { result ≡ before_terminal stands.now terminal set }
 {
     if terminal < TERMINALS {
         set / 2 & stands[terminal as usize]
@@ -43,7 +43,7 @@ fn before_symbol(
     start: usize,
     end: usize,
 ) -> u64
-    ensures { result ≡ beforeSymbol stands.now chart.now start end symbol set }
+    ensures { result ≡ before_symbol stands.now chart.now start end symbol set }
 {
     match symbol {
         Symbol::Terminal(number) => before_terminal(stands, number, set),
@@ -73,7 +73,7 @@ fn onto(
     start: usize,
     end: usize,
 ) -> Scan
-    ensures { result ≡ scanOnto stands.now chart.now start end word scan }
+    ensures { result ≡ scan_onto stands.now chart.now start end word scan }
 {
     let set = scan.set;
     let kept = scan.kept;
@@ -111,7 +111,7 @@ fn keeps(
     end: usize,
 ) -> bool
     requires { (from < to) × (to ≤ length words.now) }
-    ensures { result ≡ keepsBy words.now from to stands.now chart.now start end }
+    ensures { result ≡ keeps_by words.now from to stands.now chart.now start end }
 {
     let mut scan = none_open(end);
     let mut at = to;
@@ -136,7 +136,7 @@ pub fn ask(
     start: usize,
     end: usize,
 ) -> u32
-    ensures { result ≡ askedBy words.now starts.now sizes.rules rule stands.now chart.now start end found }
+    ensures { result ≡ asked_by words.now starts.now sizes.rules rule stands.now chart.now start end found }
 {
     let from = starts[rule % RULES];
     let to = end_of(words, starts, sizes, rule);

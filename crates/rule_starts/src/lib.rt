@@ -1,6 +1,6 @@
 // Where the rules of an encoded grammar begin.
 ghost use Rattle.std.specs.Prelude.{◌≡◌};
-ghost use Rattle.grammar.specs.contracts.Starts.{StartNoted, ruleStarts};
+ghost use Rattle.grammar.specs.inner.Starts.{StartNoted, rule_starts};
 
 use grammar::limits::RULES;
 use reading_steps::begins_rule;
@@ -21,7 +21,7 @@ fn note(starts: &mut [usize; RULES], rules: usize, at: usize, word: Word) -> usi
 
 // Where each rule begins, by index; zero for rules that are not there. What stood there is gone.
 pub fn rule_starts(words: &[u32], starts: &mut [usize; RULES])
-    ensures { starts.new ≡ ruleStarts words.now }
+    ensures { starts.new ≡ rule_starts words.now }
 {
     *starts = [0usize; RULES];
     let mut rules = 0;

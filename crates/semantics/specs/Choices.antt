@@ -11,9 +11,9 @@ abbrev pub Choice : Type 0
 Choice = ℕ → ℕ → Option ℕ
 
 -- by the entry of a table for the first k tokens from the place on
-abbrev pub byLookahead : Table → ℕ → List ℕ → Choice
-byLookahead t k w A i = t A (look k w i)
+abbrev pub by_lookahead : Table → ℕ → List ℕ → Choice
+by_lookahead t k w A i = t A (look k w i)
 
 -- by the grammar's own table (document 01: looks up its cell)
-abbrev pub tableChoice : Grammar → ℕ → List ℕ → Choice
-tableChoice G k w = byLookahead (table_of G k) k w
+abbrev pub table_choice : Grammar → ℕ → List ℕ → Choice
+table_choice G k w = by_lookahead (table_of G k) k w

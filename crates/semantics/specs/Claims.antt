@@ -5,8 +5,8 @@ use Rattle.grammar.specs.Syntax.{Body, Rule, Grammar}
 use Rattle.base.specs.Quantifiers.{any_of, all_of}
 use Rattle.base.specs.FiniteSets.{member, keep}
 use Rattle.semantics.specs.Families.{Table}
-use Rattle.base.specs.Strings.{strings, sameString}
-use Rattle.semantics.specs.FirstFollow.{concatStrings, Entry, entries, firstSets, firstRule, followSets}
+use Rattle.base.specs.Strings.{strings, same_string}
+use Rattle.semantics.specs.FirstFollow.{concat_strings, Entry, entries, first_sets, first_rule, follow_sets}
 
 module _ {X : Type 0} (p : X → Bool) where
   -- two members at different places pass
@@ -21,14 +21,14 @@ module _ {X : Type 0} (p : X → Bool) where
 
 -- the meeting of the sets of a rule's positive bodies
 unfoldable pub meeting : Grammar → ℕ → Rule → List (List ℕ)
-meeting G k r = keep (firstRule k (firstSets G k) r) (strings k G.terminals)
+meeting G k r = keep (first_rule k (first_sets G k) r) (strings k G.terminals)
 
 -- the strings that a rule claims for its head (document 01: a rule claims columns)
 unfoldable pub claimed : Grammar → ℕ → Rule → List (List ℕ)
-claimed G k r = concatStrings k (meeting G k r) (followSets G k r.head)
+claimed G k r = concat_strings k (meeting G k r) (follow_sets G k r.head)
 
 unfoldable pub claims : Grammar → ℕ → Entry → Rule → Bool
-claims G k e r = eqb r.head e.0 && member sameString (claimed G k r) e.1
+claims G k e r = eqb r.head e.0 && member same_string (claimed G k r) e.1
 
 abbrev pub without : List Body → Bool
 without [] = true
@@ -36,11 +36,11 @@ without (b ∷ l) = false
 
 -- a nonterminal with a rule without positives that more than the end can follow
 unfoldable pub overruns : Grammar → ℕ → ℕ → Bool
-overruns G k A = any_of (λ r. eqb r.head A && without r.positives) G.rules && any_of (λ y. not (sameString [] y)) (followSets G k A)
+overruns G k A = any_of (λ r. eqb r.head A && without r.positives) G.rules && any_of (λ y. not (same_string [] y)) (follow_sets G k A)
 
 -- two rules claim an entry, or it is that of the first terminal for such a nonterminal
 abbrev pub clashing : Grammar → ℕ → Entry → Bool
-clashing G k e = several (claims G k e) G.rules || (overruns G k e.0 && sameString (0 ∷ []) e.1)
+clashing G k e = several (claims G k e) G.rules || (overruns G k e.0 && same_string (0 ∷ []) e.1)
 
 -- these entries, by nonterminal, then in the order of `strings` (document 01, k = 1: by name, then column)
 unfoldable pub clashes : Grammar → ℕ → List Entry
@@ -56,5 +56,5 @@ unfoldable pub table_of : Grammar → ℕ → Table
 table_of G k A x = position (claims G k (A, x)) G.rules
 
 -- a head of a rule without positives is followed by the end alone
-unfoldable pub everyEnds : Grammar → ℕ → Bool
-everyEnds G k = all_of (λ r. not (without r.positives) || (ltb 0 k && all_of (sameString []) (followSets G k r.head))) G.rules
+unfoldable pub every_ends : Grammar → ℕ → Bool
+every_ends G k = all_of (λ r. not (without r.positives) || (ltb 0 k && all_of (same_string []) (follow_sets G k r.head))) G.rules

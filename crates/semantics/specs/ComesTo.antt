@@ -19,42 +19,42 @@ call_at A i = record { nonterminal = A; place = i }
 abbrev pub InRange : Grammar → List ℕ → Call → Type 0
 InRange G w x = (x.nonterminal < G.nonterminals) × (x.place ≤ length w)
 
-abbrev pub symbolComesTo : Symbol → ℕ → List Call
-symbolComesTo (Terminal a) i = []
-symbolComesTo (Nonterminal A) i = call_at A i ∷ []
+abbrev pub symbol_comes_to : Symbol → ℕ → List Call
+symbol_comes_to (Terminal a) i = []
+symbol_comes_to (Nonterminal A) i = call_at A i ∷ []
 
-abbrev pub fromEnd : Outcome → (ℕ → List Call) → List Call
-fromEnd Failed f = []
-fromEnd (End m) f = f m
+abbrev pub from_end : Outcome → (ℕ → List Call) → List Call
+from_end Failed f = []
+from_end (End m) f = f m
 
 unfoldable pub when : Bool → List Call → List Call
 when true l = l
 when false l = []
 
 -- what the running of a body from i reaches, in order; the first symbol that fails stops it
-unfoldable pub bodyComesTo : Outcomes → List ℕ → Body → ℕ → List Call
-bodyComesTo c w [] i = []
-bodyComesTo c w (X ∷ b) i = symbolComesTo X i ++ fromEnd (read c w X i) (λ m. bodyComesTo c w b m)
+unfoldable pub body_comes_to : Outcomes → List ℕ → Body → ℕ → List Call
+body_comes_to c w [] i = []
+body_comes_to c w (X ∷ b) i = symbol_comes_to X i ++ from_end (read c w X i) (λ m. body_comes_to c w b m)
 
 -- the negative bodies: one that ends at e stops the rule
-unfoldable pub negativesComeTo : Outcomes → List ℕ → ℕ → ℕ → List Body → List Call
-negativesComeTo c w i e [] = []
-negativesComeTo c w i e (b ∷ ns) = bodyComesTo c w b i ++ when (not (ends_at (run c w b i) e)) (negativesComeTo c w i e ns)
+unfoldable pub negatives_come_to : Outcomes → List ℕ → ℕ → ℕ → List Body → List Call
+negatives_come_to c w i e [] = []
+negatives_come_to c w i e (b ∷ ns) = body_comes_to c w b i ++ when (not (ends_at (run c w b i) e)) (negatives_come_to c w i e ns)
 
 -- the later positive bodies: one that does not end at e stops the rule
-unfoldable pub positivesComeTo : Outcomes → List ℕ → ℕ → ℕ → List Body → List Body → List Call
-positivesComeTo c w i e [] ns = negativesComeTo c w i e ns
-positivesComeTo c w i e (b ∷ ps) ns = bodyComesTo c w b i ++ when (ends_at (run c w b i) e) (positivesComeTo c w i e ps ns)
+unfoldable pub positives_come_to : Outcomes → List ℕ → ℕ → ℕ → List Body → List Body → List Call
+positives_come_to c w i e [] ns = negatives_come_to c w i e ns
+positives_come_to c w i e (b ∷ ps) ns = body_comes_to c w b i ++ when (ends_at (run c w b i) e) (positives_come_to c w i e ps ns)
 
 -- the first positive body sets the end, which is n where there is none
-unfoldable pub ruleComesTo : Outcomes → List ℕ → ℕ → List Body → List Body → ℕ → List Call
-ruleComesTo c w n [] ns i = negativesComeTo c w i n ns
-ruleComesTo c w n (b ∷ ps) ns i = bodyComesTo c w b i ++ fromEnd (run c w b i) (λ e. positivesComeTo c w i e ps ns)
+unfoldable pub rule_comes_to : Outcomes → List ℕ → ℕ → List Body → List Body → ℕ → List Call
+rule_comes_to c w n [] ns i = negatives_come_to c w i n ns
+rule_comes_to c w n (b ∷ ps) ns i = body_comes_to c w b i ++ from_end (run c w b i) (λ e. positives_come_to c w i e ps ns)
 
-unfoldable pub selectedComesTo : Outcomes → List ℕ → Option Rule → ℕ → List Call
-selectedComesTo c w none i = []
-selectedComesTo c w (some r) i = ruleComesTo c w (length w) r.positives r.negatives i
+unfoldable pub selected_comes_to : Outcomes → List ℕ → Option Rule → ℕ → List Call
+selected_comes_to c w none i = []
+selected_comes_to c w (some r) i = rule_comes_to c w (length w) r.positives r.negatives i
 
 -- what the running of a call's rule reaches
-unfoldable pub callComesTo : Grammar → Choice → List ℕ → Call → List Call
-callComesTo G choice w x = selectedComesTo (descend G choice w) w (select G (choice x.nonterminal x.place)) x.place
+unfoldable pub call_comes_to : Grammar → Choice → List ℕ → Call → List Call
+call_comes_to G choice w x = selected_comes_to (descend G choice w) w (select G (choice x.nonterminal x.place)) x.place

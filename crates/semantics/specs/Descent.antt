@@ -59,17 +59,17 @@ select G none = none
 select G (some q) = get_elem? G.rules q
 
 -- what the chosen rule gives a call of A at i, where the calls that it makes give c
-unfoldable pub byChoice : Grammar → Choice → List ℕ → Outcomes → Outcomes
-byChoice G choice w c A i = obey (λ b. run c w b i) (length w) (select G (choice A i))
+unfoldable pub by_choice : Grammar → Choice → List ℕ → Outcomes → Outcomes
+by_choice G choice w c A i = obey (λ b. run c w b i) (length w) (select G (choice A i))
 
 -- each call gives what its rule gives
 abbrev pub Results : Grammar → Choice → List ℕ → Outcomes → Type 0
-Results G choice w c = (A i : ℕ) → A < G.nonterminals → i ≤ length w → c A i ≡ byChoice G choice w c A i
+Results G choice w c = (A i : ℕ) → A < G.nonterminals → i ≤ length w → c A i ≡ by_choice G choice w c A i
 
 -- calls at most n deep; deeper ones fail
 unfoldable pub within : Grammar → Choice → List ℕ → ℕ → Outcomes
 within G choice w zero A i = Failed
-within G choice w (suc n) A i = byChoice G choice w (within G choice w n) A i
+within G choice w (suc n) A i = by_choice G choice w (within G choice w n) A i
 
 -- the result of calling A at i: without left recursion no call goes deeper than there are pairs
 unfoldable pub descend : Grammar → Choice → List ℕ → Outcomes

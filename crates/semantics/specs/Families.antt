@@ -83,8 +83,8 @@ pub record Overlap (G : Grammar) (k : ℕ) (F L : Family) (A : ℕ) (x : List �
   pub one : ℕ
   pub other : ℕ
   pub different : one < other
-  pub claimsOne : Claims G k F L one A x
-  pub claimsOther : Claims G k F L other A x
+  pub claims_one : Claims G k F L one A x
+  pub claims_other : Claims G k F L other A x
 
 -- a rule of A without positive bodies takes all that is left, yet more than the end can follow A
 pub record Overrun (G : Grammar) (L : Family) (A : ℕ) : Type 0 where

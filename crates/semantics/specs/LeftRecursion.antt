@@ -4,22 +4,22 @@ use mathlib.Core.List.{[], ◌∷◌, Memᴰ}
 use Rattle.std.proofs.Math.Option.{Option}
 use Rattle.word.specs.declared.Symbol.TheVariants.{Terminal, Nonterminal}
 use Rattle.grammar.specs.Syntax.{Body, Rule, Grammar, bodies}
-use Rattle.base.specs.Quantifiers.{any_of, all_of, anyBelow, countBelow, lowest}
-use Rattle.base.specs.FiniteSets.{numbersBelow}
+use Rattle.base.specs.Quantifiers.{any_of, all_of, any_below, count_below, lowest}
+use Rattle.base.specs.FiniteSets.{numbers_below}
 use Rattle.base.specs.Rounds.{NumberSet, least}
 
 -- the body consists of nonterminals of the set
-unfoldable pub allNullable : NumberSet → Body → Bool
-allNullable s [] = true
-allNullable s (Terminal a ∷ b) = false
-allNullable s (Nonterminal A ∷ b) = s A && allNullable s b
+unfoldable pub all_nullable : NumberSet → Body → Bool
+all_nullable s [] = true
+all_nullable s (Terminal a ∷ b) = false
+all_nullable s (Nonterminal A ∷ b) = s A && all_nullable s b
 
-unfoldable pub nullStep : Grammar → NumberSet → NumberSet
-nullStep G s A = any_of (λ r. eqb r.head A && all_of (allNullable s) r.positives) G.rules
+unfoldable pub null_step : Grammar → NumberSet → NumberSet
+null_step G s A = any_of (λ r. eqb r.head A && all_of (all_nullable s) r.positives) G.rules
 
 -- (document 01: maybe-empty)
 unfoldable pub nullable : Grammar → NumberSet
-nullable G = least eqb (numbersBelow G.nonterminals) (nullStep G)
+nullable G = least eqb (numbers_below G.nonterminals) (null_step G)
 
 -- B stands in the body after nonterminals of the set alone
 pub data LeftIn (s : NumberSet) (B : ℕ) : Body → Type 0 where
@@ -45,29 +45,29 @@ abbrev pub NoLeftRecursion : Grammar → Type 0
 NoLeftRecursion G = (A : ℕ) → LeftReaches G A A → ⊥
 
 -- the same as tests
-unfoldable pub leftIn : NumberSet → ℕ → Body → Bool
-leftIn s B [] = false
-leftIn s B (Terminal a ∷ b) = false
-leftIn s B (Nonterminal C ∷ b) = eqb C B || (s C && leftIn s B b)
+unfoldable pub left_in : NumberSet → ℕ → Body → Bool
+left_in s B [] = false
+left_in s B (Terminal a ∷ b) = false
+left_in s B (Nonterminal C ∷ b) = eqb C B || (s C && left_in s B b)
 
-unfoldable pub leftDepends : Grammar → ℕ → NumberSet
-leftDepends G A B = any_of (λ r. eqb r.head A && any_of (leftIn (nullable G) B) (bodies r)) G.rules
+unfoldable pub left_depends : Grammar → ℕ → NumberSet
+left_depends G A B = any_of (λ r. eqb r.head A && any_of (left_in (nullable G) B) (bodies r)) G.rules
 
-unfoldable pub reachStep : Grammar → ℕ → NumberSet → NumberSet
-reachStep G A s B = leftDepends G A B || anyBelow G.nonterminals (λ C. s C && leftDepends G C B)
+unfoldable pub reach_step : Grammar → ℕ → NumberSet → NumberSet
+reach_step G A s B = left_depends G A B || any_below G.nonterminals (λ C. s C && left_depends G C B)
 
-unfoldable pub leftReaches : Grammar → ℕ → NumberSet
-leftReaches G A = least eqb (numbersBelow G.nonterminals) (reachStep G A)
+unfoldable pub left_reaches : Grammar → ℕ → NumberSet
+left_reaches G A = least eqb (numbers_below G.nonterminals) (reach_step G A)
 
-unfoldable pub leftRecursive : Grammar → NumberSet
-leftRecursive G A = leftReaches G A A
+unfoldable pub left_recursive : Grammar → NumberSet
+left_recursive G A = left_reaches G A A
 
-unfoldable pub lowestLeftRecursive : Grammar → Option ℕ
-lowestLeftRecursive G = lowest G.nonterminals (leftRecursive G)
+unfoldable pub lowest_left_recursive : Grammar → Option ℕ
+lowest_left_recursive G = lowest G.nonterminals (left_recursive G)
 
 -- how many nonterminals A left-reaches (document 01: leaning rank)
 unfoldable pub rank : Grammar → ℕ → ℕ
-rank G A = countBelow G.nonterminals (leftReaches G A)
+rank G A = count_below G.nonterminals (left_reaches G A)
 
 -- a length first, then the rank: the measure of a span, and of a call by the tokens left
 unfoldable pub level : Grammar → ℕ → ℕ → ℕ

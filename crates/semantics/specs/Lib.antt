@@ -11,4 +11,4 @@ pub mod ComesTo
 pub mod Calls
 pub mod Memo
 pub mod Theorems
-pub mod contracts
+pub mod inner

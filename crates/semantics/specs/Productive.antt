@@ -15,5 +15,5 @@ Unproductive G k A = (x : List ℕ) → First G k A x → ⊥
 unfoldable pub unproductive : Grammar → ℕ → NumberSet
 unproductive G k A = not (any_of (λ x. first G k (A, x)) (strings k G.terminals))
 
-unfoldable pub lowestUnproductive : Grammar → ℕ → Option ℕ
-lowestUnproductive G k = lowest G.nonterminals (unproductive G k)
+unfoldable pub lowest_unproductive : Grammar → ℕ → Option ℕ
+lowest_unproductive G k = lowest G.nonterminals (unproductive G k)

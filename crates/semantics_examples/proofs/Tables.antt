@@ -7,14 +7,14 @@ use mathlib.Core.Path.{◌≡◌, refl}
 use Prim.Native.Nat.{ℕ, ◌+◌, ◌^◌}
 use Rattle.word.specs.declared.Symbol.TheVariants.{Terminal, Nonterminal}
 use Rattle.grammar.specs.Syntax.{Rule, Grammar}
-use Rattle.base.specs.FiniteSets.{member, numbersBelow}
+use Rattle.base.specs.FiniteSets.{member, numbers_below}
 use Rattle.base.specs.Rounds.{settle}
 use Rattle.base.specs.Strings.{strings}
-use Rattle.semantics.specs.FirstFollow.{sameEntry, entries, firstStep, firstSets, followSets}
-use Rattle.semantics.specs.Claims.{clashes, table_of, everyEnds}
-use Rattle.grammar.specs.examples.Cards.{grammarR, grammarM, grammarE}
-use Rattle.semantics.specs.Productive.{lowestUnproductive}
-use Rattle.semantics_examples.proofs.Computing.{tables-compute, productive-computes}
+use Rattle.semantics.specs.FirstFollow.{same_entry, entries, first_step, first_sets, follow_sets}
+use Rattle.semantics.specs.Claims.{clashes, table_of, every_ends}
+use Rattle.grammar.specs.examples.Cards.{grammar_r, grammar_m, grammar_e}
+use Rattle.semantics.specs.Productive.{lowest_unproductive}
+use Rattle.semantics_examples.proofs.Computing.{tables_compute, productive_computes}
 
 -- the number of a set at k = 1: a terminal a weighs 2 ^ a, the empty string 2 ^ 24
 weight : List (List ℕ) → ℕ
@@ -27,9 +27,9 @@ abbrev Row : Type 0
 Row = ℕ × ℕ × List (Option ℕ)
 
 sheet : Grammar → List Row
-sheet G = map (λ A. (weight (firstSets G 1 A), weight (followSets G 1 A), map (table_of G 1 A) (strings 1 G.terminals))) (numbersBelow G.nonterminals)
+sheet G = map (λ A. (weight (first_sets G 1 A), weight (follow_sets G 1 A), map (table_of G 1 A) (strings 1 G.terminals))) (numbers_below G.nonterminals)
 
-sheets : ◌≡◌ {A = List (List Row)} (sheet grammarR ∷ sheet grammarM ∷ sheet grammarE ∷ []) (
+sheets : ◌≡◌ {A = List (List Row)} (sheet grammar_r ∷ sheet grammar_m ∷ sheet grammar_e ∷ []) (
     ((16777217, 16777216, some 0 ∷ some 1 ∷ []) ∷ [])
     ∷ (
     (16777219, 16777216, some 0 ∷ some 0 ∷ none ∷ some 0 ∷ [])
@@ -46,15 +46,15 @@ sheets : ◌≡◌ {A = List (List Row)} (sheet grammarR ∷ sheet grammarM ∷ 
     )
     ∷ []
     )
-unfolding tables-compute weight sheet
+unfolding tables_compute weight sheet
 sheets = refl
 
 -- as many rounds as there are nonterminals do not suffice: R has one, and a is in its FIRST set after two
-rounds-needed : ◌≡◌ {A = List Bool}
-    (map (λ n. member sameEntry (settle sameEntry (entries grammarR 1) (firstStep grammarR 1) n []) (0, 0 ∷ [])) (numbersBelow 3))
+rounds_needed : ◌≡◌ {A = List Bool}
+    (map (λ n. member same_entry (settle same_entry (entries grammar_r 1) (first_step grammar_r 1) n []) (0, 0 ∷ [])) (numbers_below 3))
     (false ∷ false ∷ true ∷ [])
-unfolding tables-compute
-rounds-needed = refl
+unfolding tables_compute
+rounds_needed = refl
 
 -- S → A & B, A → a | b, B → b | c, D → a E, E → b E: the positives of S meet in b alone, and nothing begins D, since nothing completes E
 abbrev meets : Grammar
@@ -71,20 +71,20 @@ meets = record {
       ∷ record { head = 4; positives = (Terminal 1 ∷ Nonterminal 4 ∷ []) ∷ []; negatives = [] } ∷ [];
 }
 
-meets-sheet : ◌≡◌ {A = List Row} (sheet meets) (
+meets_sheet : ◌≡◌ {A = List Row} (sheet meets) (
     (2, 16777216, none ∷ some 0 ∷ none ∷ none ∷ [])
     ∷ (3, 16777216, some 1 ∷ some 2 ∷ none ∷ none ∷ [])
     ∷ (6, 16777216, none ∷ some 3 ∷ some 4 ∷ none ∷ [])
     ∷ (0, 0, none ∷ none ∷ none ∷ none ∷ [])
     ∷ (0, 0, none ∷ none ∷ none ∷ none ∷ []) ∷ []
     )
-unfolding tables-compute weight sheet
-meets-sheet = refl
+unfolding tables_compute weight sheet
+meets_sheet = refl
 
 -- D, the nonterminal 3, is the lowest unproductive one, though it has a rule
-meets-lowest : lowestUnproductive meets 1 ≡ some 3
-unfolding productive-computes
-meets-lowest = refl
+meets_lowest : lowest_unproductive meets 1 ≡ some 3
+unfolding productive_computes
+meets_lowest = refl
 
 -- (ab)ⁿac but for ac: S → T & ¬ X, T → a b T, T → a c, X → a c
 abbrev pub repeated : Grammar
@@ -99,19 +99,19 @@ repeated = record {
 }
 
 -- one token does not tell T's rules apart, two do
-repeated-one : clashes repeated 1 ≡ (1, 0 ∷ []) ∷ []
-unfolding tables-compute
-repeated-one = refl
+repeated_one : clashes repeated 1 ≡ (1, 0 ∷ []) ∷ []
+unfolding tables_compute
+repeated_one = refl
 
-repeated-two : clashes repeated 2 ≡ []
-unfolding tables-compute
-repeated-two = refl
+repeated_two : clashes repeated 2 ≡ []
+unfolding tables_compute
+repeated_two = refl
 
-repeated-table : ◌≡◌ {A = List (Option ℕ)}
+repeated_table : ◌≡◌ {A = List (Option ℕ)}
     (table_of repeated 2 0 (0 ∷ 1 ∷ []) ∷ table_of repeated 2 1 (0 ∷ 1 ∷ []) ∷ table_of repeated 2 1 (0 ∷ 2 ∷ []) ∷ table_of repeated 2 2 (0 ∷ 1 ∷ []) ∷ [])
     (some 0 ∷ some 1 ∷ some 2 ∷ none ∷ [])
-unfolding tables-compute
-repeated-table = refl
+unfolding tables_compute
+repeated_table = refl
 
 -- every word but a: S → ¬ X, X → a. Nothing but the end follows S, and it takes a token to see that
 abbrev pub others : Grammar
@@ -123,29 +123,29 @@ others = record {
       ∷ record { head = 1; positives = (Terminal 0 ∷ []) ∷ []; negatives = [] } ∷ [];
 }
 
-others-sheet : ◌≡◌ {A = List Row} (sheet others) ((16777217, 16777216, some 0 ∷ some 0 ∷ []) ∷ (1, 16777216, some 1 ∷ none ∷ []) ∷ [])
-unfolding tables-compute weight sheet
-others-sheet = refl
+others_sheet : ◌≡◌ {A = List Row} (sheet others) ((16777217, 16777216, some 0 ∷ some 0 ∷ []) ∷ (1, 16777216, some 1 ∷ none ∷ []) ∷ [])
+unfolding tables_compute weight sheet
+others_sheet = refl
 
-others-ends : ◌≡◌ {A = List Bool} (everyEnds others 0 ∷ everyEnds others 1 ∷ []) (false ∷ true ∷ [])
-unfolding tables-compute
-others-ends = refl
+others_ends : ◌≡◌ {A = List Bool} (every_ends others 0 ∷ every_ends others 1 ∷ []) (false ∷ true ∷ [])
+unfolding tables_compute
+others_ends = refl
 
 -- with two tokens such a rule can begin with every string of at most two of the grammar's own terminals
-others-two : firstSets others 2 0 ≡ (0 ∷ 0 ∷ []) ∷ (0 ∷ []) ∷ [] ∷ []
-unfolding tables-compute
-others-two = refl
+others_two : first_sets others 2 0 ≡ (0 ∷ 0 ∷ []) ∷ (0 ∷ []) ∷ [] ∷ []
+unfolding tables_compute
+others_two = refl
 
 -- one nonterminal and no rule; and S → a S, which never ends: both are unproductive
 abbrev alone : List Rule → Grammar
 alone rules = record { nonterminals = 1; terminals = 1; rules = rules }
 
-alone-unproductive : ◌≡◌ {A = List (Option ℕ)}
-    (map (λ rules. lowestUnproductive (alone rules) 1)
+alone_unproductive : ◌≡◌ {A = List (Option ℕ)}
+    (map (λ rules. lowest_unproductive (alone rules) 1)
     ([] ∷ (record { head = 0; positives = (Terminal 0 ∷ Nonterminal 0 ∷ []) ∷ []; negatives = [] } ∷ []) ∷ []))
     (some 0 ∷ some 0 ∷ [])
-unfolding productive-computes
-alone-unproductive = refl
+unfolding productive_computes
+alone_unproductive = refl
 
 -- S → a b & a c: with one token both positives begin with a, with two they have nothing in common
 abbrev apart : Grammar
@@ -155,6 +155,6 @@ apart = record {
   rules = record { head = 0; positives = (Terminal 0 ∷ Terminal 1 ∷ []) ∷ (Terminal 0 ∷ Terminal 2 ∷ []) ∷ []; negatives = [] } ∷ [];
 }
 
-apart-lowest : ◌≡◌ {A = List (Option ℕ)} (lowestUnproductive apart 1 ∷ lowestUnproductive apart 2 ∷ []) (none ∷ some 0 ∷ [])
-unfolding productive-computes
-apart-lowest = refl
+apart_lowest : ◌≡◌ {A = List (Option ℕ)} (lowest_unproductive apart 1 ∷ lowest_unproductive apart 2 ∷ []) (none ∷ some 0 ∷ [])
+unfolding productive_computes
+apart_lowest = refl

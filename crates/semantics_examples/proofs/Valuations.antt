@@ -7,13 +7,13 @@ use Prim.Native.Nat.{ℕ}
 use native.Mathlib.Omega.{arith}
 use Rattle.word.specs.declared.Symbol.TheVariants.{Terminal, Nonterminal}
 use Rattle.grammar.specs.Syntax.{Grammar, WellScoped}
-use Rattle.base.specs.Quantifiers.{any_of, all_of, anyBelow}
-use Rattle.semantics.specs.Valuations.{Valuation, contains, derives, byRules, rounds, Solves, solution}
-use Rattle.semantics.specs.LeftRecursion.{NoLeftRecursion, lowestLeftRecursive}
-use Rattle.semantics.proofs.meaning.LeftRecursion.{lowestLeftRecursive-none}
-use Rattle.semantics.proofs.meaning.Unique.{solution-solves}
-use Rattle.semantics_examples.proofs.Check.{belowTest, scopedTest, scopedTest-sound}
-use Rattle.semantics_examples.proofs.Computing.{left-recursion-computes}
+use Rattle.base.specs.Quantifiers.{any_of, all_of, any_below}
+use Rattle.semantics.specs.Valuations.{Valuation, contains, derives, by_rules, rounds, Solves, solution}
+use Rattle.semantics.specs.LeftRecursion.{NoLeftRecursion, lowest_left_recursive}
+use Rattle.semantics.proofs.meaning.LeftRecursion.{lowest_left_recursive_none}
+use Rattle.semantics.proofs.meaning.Unique.{solution_solves}
+use Rattle.semantics_examples.proofs.Check.{below_test, scoped_test, scoped_test_sound}
+use Rattle.semantics_examples.proofs.Computing.{left_recursion_computes}
 
 -- S → T & ¬ a b, T → a T b, T → ε: the words aⁿbⁿ but for ab
 abbrev pub balanced : Grammar
@@ -26,50 +26,50 @@ balanced = record {
       ∷ record { head = 1; positives = [] ∷ []; negatives = [] } ∷ [];
 }
 
-pub balanced-scoped : WellScoped balanced
-unfolding scopedTest belowTest all_of
-balanced-scoped = scopedTest-sound balanced tt
+pub balanced_scoped : WellScoped balanced
+unfolding scoped_test below_test all_of
+balanced_scoped = scoped_test_sound balanced tt
 
 -- no nonterminal is found that left-reaches itself
-pub balanced-free : NoLeftRecursion balanced
-unfolding left-recursion-computes
-balanced-free = (lowestLeftRecursive-none balanced balanced-scoped).0 refl
+pub balanced_free : NoLeftRecursion balanced
+unfolding left_recursion_computes
+balanced_free = (lowest_left_recursive_none balanced balanced_scoped).0 refl
 
-balanced-solves : (w : List ℕ) → Solves balanced w (solution balanced w)
-balanced-solves = solution-solves balanced balanced-scoped balanced-free
+balanced_solves : (w : List ℕ) → Solves balanced w (solution balanced w)
+balanced_solves = solution_solves balanced balanced_scoped balanced_free
 
 -- by four rounds, the count that matters here
 aabb : rounds balanced (0 ∷ 0 ∷ 1 ∷ 1 ∷ []) 4 (λ _ _ _. false) 0 0 4 ≡ true
-unfolding rounds byRules derives contains any_of all_of anyBelow
+unfolding rounds by_rules derives contains any_of all_of any_below
 aabb = refl
 
 ab : rounds balanced (0 ∷ 1 ∷ []) 4 (λ _ _ _. false) 0 0 2 ≡ false
-unfolding rounds byRules derives contains any_of all_of anyBelow
+unfolding rounds by_rules derives contains any_of all_of any_below
 ab = refl
 
 -- S → ¬ S: left-recursive by its negative body, and no valuation solves it
 abbrev liar : Grammar
 liar = record { nonterminals = 1; terminals = 0; rules = record { head = 0; positives = []; negatives = (Nonterminal 0 ∷ []) ∷ [] } ∷ [] }
 
-liar-lowest : lowestLeftRecursive liar ≡ some 0
-unfolding left-recursion-computes
-liar-lowest = refl
+liar_lowest : lowest_left_recursive liar ≡ some 0
+unfolding left_recursion_computes
+liar_lowest = refl
 
-liar-flips : (b : Bool) → b ≡ (not (((b && true) || false) || false) || false) → ⊥
-liar-flips true e = true≢false e
-liar-flips false e = false≢true e
+liar_flips : (b : Bool) → b ≡ (not (((b && true) || false) || false) || false) → ⊥
+liar_flips true e = true≢false e
+liar_flips false e = false≢true e
 
-liar-none : (w : List ℕ) (v : Valuation) → Solves liar w v → ⊥
-unfolding byRules derives contains any_of all_of anyBelow
-liar-none w v k = liar-flips (v 0 0 0) (k 0 0 0 (omega arith) (omega arith) (omega arith))
+liar_none : (w : List ℕ) (v : Valuation) → Solves liar w v → ⊥
+unfolding by_rules derives contains any_of all_of any_below
+liar_none w v k = liar_flips (v 0 0 0) (k 0 0 0 (omega arith) (omega arith) (omega arith))
 
-aabb-whole : solution balanced (0 ∷ 0 ∷ 1 ∷ 1 ∷ []) 0 0 4 ≡ true
-unfolding solution rounds byRules derives contains any_of all_of anyBelow
-aabb-whole = refl
+aabb_whole : solution balanced (0 ∷ 0 ∷ 1 ∷ 1 ∷ []) 0 0 4 ≡ true
+unfolding solution rounds by_rules derives contains any_of all_of any_below
+aabb_whole = refl
 
-ab-whole : solution balanced (0 ∷ 1 ∷ []) 0 0 2 ≡ false
-unfolding solution rounds byRules derives contains any_of all_of anyBelow
-ab-whole = refl
+ab_whole : solution balanced (0 ∷ 1 ∷ []) 0 0 2 ≡ false
+unfolding solution rounds by_rules derives contains any_of all_of any_below
+ab_whole = refl
 
 -- S → T a, T → S: both left-reach themselves, and S is the lower
 abbrev circular : Grammar
@@ -81,6 +81,6 @@ circular = record {
       ∷ record { head = 1; positives = (Nonterminal 0 ∷ []) ∷ []; negatives = [] } ∷ [];
 }
 
-circular-lowest : lowestLeftRecursive circular ≡ some 0
-unfolding left-recursion-computes
-circular-lowest = refl
+circular_lowest : lowest_left_recursive circular ≡ some 0
+unfolding left_recursion_computes
+circular_lowest = refl

@@ -1,16 +1,16 @@
 // Follow sets: passes over the rules, in both directions by turns, until one adds nothing; the words of a rule from their end.
 ghost use Rattle.std.specs.Prelude.{◌≡◌, suc, ◌<◌, length, drop, replicate};
 ghost use Rattle.grammar.specs.declared.reading.Reading.TheVariants.{Read};
-ghost use Rattle.grammar.specs.Encoding.{parse, grammarOf};
-ghost use Rattle.grammar.specs.Limits.{maxNonterminals};
-ghost use Rattle.grammar.specs.contracts.Starts.{ruleStarts};
+ghost use Rattle.grammar.specs.Encoding.{parse, grammar_of};
+ghost use Rattle.grammar.specs.Limits.{max_nonterminals};
+ghost use Rattle.grammar.specs.inner.Starts.{rule_starts};
 ghost use Rattle.admission.specs.Admission.{admission};
-ghost use Rattle.families.specs.contracts.Follow.{Asked, FollowTurn, LastTurns, FollowRules, FollowNumbersClosed};
-ghost use Rattle.families.specs.contracts.Least.{at as family, AddsTo, Passes};
+ghost use Rattle.families.specs.inner.Follow.{Asked, FollowTurn, LastTurns, FollowRules, FollowNumbersClosed};
+ghost use Rattle.families.specs.inner.Least.{at as family, AddsTo, Passes};
 ghost use Rattle.base.specs.Lists.{listed};
-ghost use Rattle.families.specs.contracts.Naming.{nonterminalOf, Indexed};
-ghost use Rattle.families.specs.contracts.Rules.{RuleWords, BodyWords, PassGiven};
-ghost use Rattle.families.specs.Sets.{firstNumber, followNumber};
+ghost use Rattle.families.specs.inner.Naming.{nonterminal_of, Indexed};
+ghost use Rattle.families.specs.inner.Rules.{RuleWords, BodyWords, PassGiven};
+ghost use Rattle.families.specs.Sets.{first_number, follow_number};
 
 use concatenation::concat;
 use families::SETS;
@@ -26,7 +26,7 @@ use word::{Symbol, Word, decode};
 // What comes behind an index in a body goes into the set of a nonterminal that stands there.
 fn add_behind(word: Word, tail: LookaheadSet, follows: &mut [u64; SETS]) -> bool
     requires { Indexed word }
-    ensures { AddsTo (nonterminalOf word) follows.old tail.bits follows.new result }
+    ensures { AddsTo (nonterminal_of word) follows.old tail.bits follows.new result }
 {
     let Word::Symbol(symbol) = word else {
         return false;
@@ -48,7 +48,7 @@ fn follow_bodies(
     lookahead: Lookahead,
 ) -> bool
     requires { Asked lookahead (family firsts.now) follow (parse (drop to words.now)) (family follows.old) × BodyWords words.now from to
-        × (length follows.old ≡ maxNonterminals) }
+        × (length follows.old ≡ max_nonterminals) }
     ensures { FollowTurn lookahead (family firsts.now) follow (parse (drop from words.now)) follows.old
         follows.new result }
 {
@@ -78,7 +78,7 @@ fn follow_rule(
     follows: &mut [u64; SETS],
     lookahead: Lookahead,
 ) -> bool
-    requires { RuleWords words.now start end × (head < maxNonterminals) × (length follows.old ≡ maxNonterminals)
+    requires { RuleWords words.now start end × (head < max_nonterminals) × (length follows.old ≡ max_nonterminals)
         × Asked lookahead (family firsts.now) last (parse (drop (suc start) words.now)) (family follows.old) }
     ensures { FollowTurn lookahead (family firsts.now) (family follows.old head)
         (parse (drop (suc start) words.now)) follows.old follows.new result }
@@ -165,9 +165,9 @@ pub(crate) fn follow_sets(
     follows: &mut [u64; SETS],
     lookahead: Lookahead,
 )
-    requires { (admission lookahead words.now ≡ Read sizes) × (starts.now ≡ ruleStarts words.now)
-        × (firsts.now ≡ listed maxNonterminals (firstNumber lookahead (grammarOf words.now))) × (follows.old ≡ replicate maxNonterminals 0) }
-    ensures { follows.new ≡ listed maxNonterminals (followNumber lookahead (grammarOf words.now)) }
+    requires { (admission lookahead words.now ≡ Read sizes) × (starts.now ≡ rule_starts words.now)
+        × (firsts.now ≡ listed max_nonterminals (first_number lookahead (grammar_of words.now))) × (follows.old ≡ replicate max_nonterminals 0) }
+    ensures { follows.new ≡ listed max_nonterminals (follow_number lookahead (grammar_of words.now)) }
 {
     let mut last = [0u64; RULES];
     let mut forward = true;

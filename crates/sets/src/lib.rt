@@ -1,6 +1,6 @@
 // First and follow sets of an encoded grammar for a lookahead.
 ghost use Rattle.std.specs.Prelude.{◌≡◌};
-ghost use Rattle.families.specs.contracts.Analysis.{familiesOf};
+ghost use Rattle.families.specs.inner.Analysis.{families_of};
 
 use families::{Families, Finding, SETS};
 use follow::follow_sets;
@@ -11,7 +11,7 @@ mod follow;
 
 // The first sets, and the follow sets where the grammar is not refused for them. The arrays are worked on where they stand and copied once.
 pub fn analyze(words: &[u32], lookahead: Lookahead) -> Families
-    ensures { result ≡ familiesOf lookahead words.now }
+    ensures { result ≡ families_of lookahead words.now }
 {
     let mut starts = [0usize; RULES];
     let mut firsts = [0u64; SETS];

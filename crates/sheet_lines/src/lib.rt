@@ -3,7 +3,7 @@ ghost use Rattle.std.specs.Prelude.{◌≡◌, ◌++◌};
 ghost use Rattle.lookahead.specs.Elements.{size as size_of};
 ghost use Rattle.text.specs.Decimal.{decimal, labelled};
 ghost use Rattle.text.specs.Writing.{Put};
-ghost use Rattle.sheet_lines.specs.Lines.{sheetWordAt, sizesLine, setsLine, tableEntryText};
+ghost use Rattle.sheet_lines.specs.Lines.{sheet_word_at, sizes_line, sets_line, table_entry_text};
 
 use grammar::codes::NO_ENTRY;
 use grammar::reading::Sizes;
@@ -12,7 +12,7 @@ use text::put::{put_bytes, put_labelled, put_or_dash};
 
 // A word of the table; behind its end there is none.
 pub fn word_at(table: &[u32], at: usize) -> u32
-    ensures { result ≡ sheetWordAt table.now at }
+    ensures { result ≡ sheet_word_at table.now at }
 {
     if at < table.len() {
         table[at]
@@ -22,7 +22,7 @@ pub fn word_at(table: &[u32], at: usize) -> u32
 }
 
 pub fn put_sizes(out: &mut [u8], at: usize, sizes: Sizes) -> usize
-    ensures { Put out.old at (sizesLine sizes) out.new result }
+    ensures { Put out.old at (sizes_line sizes) out.new result }
 {
     let at = put_labelled(out, at, b"names ", sizes.nonterminals as usize);
     let at = put_labelled(out, at, b" letters ", sizes.terminals as usize);
@@ -40,7 +40,7 @@ fn put_set(out: &mut [u8], at: usize, label: &[u8], bits: u32) -> usize
 }
 
 pub fn put_sets(out: &mut [u8], at: usize, table: &[u32], nonterminal: u32) -> usize
-    ensures { Put out.old at (setsLine table.now nonterminal) out.new result }
+    ensures { Put out.old at (sets_line table.now nonterminal) out.new result }
 {
     let first = word_at(table, 2 * nonterminal as usize);
     let follow = word_at(table, 2 * nonterminal as usize + 1);
@@ -51,7 +51,7 @@ pub fn put_sets(out: &mut [u8], at: usize, table: &[u32], nonterminal: u32) -> u
 }
 
 pub fn put_entry(out: &mut [u8], at: usize, entry: u32) -> usize
-    ensures { Put out.old at (tableEntryText entry) out.new result }
+    ensures { Put out.old at (table_entry_text entry) out.new result }
 {
     put_or_dash(out, at, entry as usize, NO_ENTRY as usize)
 }

@@ -6,21 +6,21 @@ use lib.Dec.{ltb}
 use borrow.Author.Tests.{le-ltb, ltb-false}
 use Rattle.base.specs.Choice.{choose}
 use Rattle.grammar.specs.Encoding.{sizes}
-use Rattle.grammar.specs.Limits.{maxNonterminals, maxTerminals}
+use Rattle.grammar.specs.Limits.{max_nonterminals, max_terminals}
 use Rattle.grammar.specs.declared.reading.Sizes.{Sizes}
 use Rattle.families.specs.declared.Finding.TheVariants.{Passed}
-use Rattle.sheet_text.specs.contracts.Limited.{Limited, limitedSizes, limitedFinding}
+use Rattle.sheet_text.specs.inner.Limited.{Limited, limited_sizes, limited_finding}
 
-pub limited-sizes : (z : Sizes) → Limited (limitedSizes z)
-unfolding limitedSizes
-limited-sizes z = go (ltb maxNonterminals z.nonterminals) (ltb maxTerminals z.terminals) refl refl
+pub limited_sizes_lem : (z : Sizes) → Limited (limited_sizes z)
+unfolding limited_sizes
+limited_sizes_lem z = go (ltb max_nonterminals z.nonterminals) (ltb max_terminals z.terminals) refl refl
   where
-    go : (a b : Bool) → ltb maxNonterminals z.nonterminals ≡ a → ltb maxTerminals z.terminals ≡ b
+    go : (a b : Bool) → ltb max_nonterminals z.nonterminals ≡ a → ltb max_terminals z.terminals ≡ b
         → Limited (choose a (sizes 0 0 0) (choose b (sizes 0 0 0) z))
-    go true b e f = record { fewNonterminals = omega arith; fewTerminals = omega arith }
-    go false true e f = record { fewNonterminals = omega arith; fewTerminals = omega arith }
-    go false false e f = record { fewNonterminals = ltb-false maxNonterminals z.nonterminals e; fewTerminals = ltb-false maxTerminals z.terminals f }
+    go true b e f = record { few_nonterminals = omega arith; few_terminals = omega arith }
+    go false true e f = record { few_nonterminals = omega arith; few_terminals = omega arith }
+    go false false e f = record { few_nonterminals = ltb-false max_nonterminals z.nonterminals e; few_terminals = ltb-false max_terminals z.terminals f }
 
-pub limited-same : {z : Sizes} → Limited z → limitedFinding (Passed z) ≡ Passed z
-unfolding limitedSizes
-limited-same {z} h = rw (le-ltb maxNonterminals z.nonterminals h.fewNonterminals, le-ltb maxTerminals z.terminals h.fewTerminals)
+pub limited_same : {z : Sizes} → Limited z → limited_finding (Passed z) ≡ Passed z
+unfolding limited_sizes
+limited_same {z} h = rw (le-ltb max_nonterminals z.nonterminals h.few_nonterminals, le-ltb max_terminals z.terminals h.few_terminals)

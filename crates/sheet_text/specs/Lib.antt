@@ -1,3 +1,3 @@
 pub mod Sheet
 pub mod Room
-pub mod contracts
+pub mod inner

@@ -1,10 +1,10 @@
 // The sheet of a grammar, line by line, from the words of its table.
 ghost use Rattle.std.specs.Prelude.{◌≡◌, ◌+◌, ◌≤◌, ◌<◌};
-ghost use Rattle.grammar.specs.Limits.{maxNonterminals, maxTerminals, maxTableWords};
+ghost use Rattle.grammar.specs.Limits.{max_nonterminals, max_terminals, max_table_words};
 ghost use Rattle.text.specs.Writing.{Put, up_to};
-ghost use Rattle.sheet_text.specs.contracts.Limited.{Limited, limitedSizes, limitedFinding};
-ghost use Rattle.sheet_lines.specs.Lines.{sheetWordAt, tableEntryText};
-ghost use Rattle.sheet_text.specs.Sheet.{entriesLine, nonterminalText, sheetText, checkText};
+ghost use Rattle.sheet_text.specs.inner.Limited.{Limited, limited_sizes, limited_finding};
+ghost use Rattle.sheet_lines.specs.Lines.{sheet_word_at, table_entry_text};
+ghost use Rattle.sheet_text.specs.Sheet.{entries_line, nonterminal_text, sheet_text, check_text};
 
 use families::Finding;
 use grammar::limits::{COLUMNS, NONTERMINALS, TERMINALS};
@@ -26,8 +26,8 @@ pub const ROOM: usize = SIZES_ROOM + (NONTERMINALS as usize) * (SETS_ROOM + ENTR
 
 // The entries of a row, from its start on.
 fn put_row(out: &mut [u8], at: usize, table: &[u32], start: usize, columns: usize) -> usize
-    requires { start + columns ≤ maxTableWords }
-    ensures { Put out.old at (up_to columns (λ c. tableEntryText (sheetWordAt table.now (start + c)))) out.new result }
+    requires { start + columns ≤ max_table_words }
+    ensures { Put out.old at (up_to columns (λ c. table_entry_text (sheet_word_at table.now (start + c)))) out.new result }
 {
     let mut next = at;
     let mut column = 0;
@@ -39,8 +39,8 @@ fn put_row(out: &mut [u8], at: usize, table: &[u32], start: usize, columns: usiz
 }
 
 fn put_entries(out: &mut [u8], at: usize, table: &[u32], start: usize, columns: usize) -> usize
-    requires { start + columns ≤ maxTableWords }
-    ensures { Put out.old at (entriesLine table.now start columns) out.new result }
+    requires { start + columns ≤ max_table_words }
+    ensures { Put out.old at (entries_line table.now start columns) out.new result }
 {
     let at = put_bytes(out, at, b"cells");
     let at = put_row(out, at, table, start, columns);
@@ -54,8 +54,8 @@ fn put_nonterminal(
     table: &[u32],
     nonterminal: u32,
 ) -> usize
-    requires { (sizes.nonterminals ≤ maxNonterminals) × (sizes.terminals ≤ maxTerminals) × (nonterminal < maxNonterminals) }
-    ensures { Put out.old at (nonterminalText sizes table.now nonterminal) out.new result }
+    requires { (sizes.nonterminals ≤ max_nonterminals) × (sizes.terminals ≤ max_terminals) × (nonterminal < max_nonterminals) }
+    ensures { Put out.old at (nonterminal_text sizes table.now nonterminal) out.new result }
 {
     let columns = sizes.terminals as usize + 1;
     let start = 2 * sizes.nonterminals as usize + nonterminal as usize * columns;
@@ -64,8 +64,8 @@ fn put_nonterminal(
 }
 
 fn put_nonterminals(out: &mut [u8], at: usize, sizes: Sizes, table: &[u32]) -> usize
-    requires { (sizes.nonterminals ≤ maxNonterminals) × (sizes.terminals ≤ maxTerminals) }
-    ensures { Put out.old at (up_to sizes.nonterminals (nonterminalText sizes table.now)) out.new result }
+    requires { (sizes.nonterminals ≤ max_nonterminals) × (sizes.terminals ≤ max_terminals) }
+    ensures { Put out.old at (up_to sizes.nonterminals (nonterminal_text sizes table.now)) out.new result }
 {
     let nonterminals = sizes.nonterminals;
     let mut next = at;
@@ -79,7 +79,7 @@ fn put_nonterminals(out: &mut [u8], at: usize, sizes: Sizes, table: &[u32]) -> u
 
 fn put_sheet(out: &mut [u8], sizes: Sizes, table: &[u32]) -> usize
     requires { Limited sizes }
-    ensures { Put out.old 0 (sheetText sizes table.now) out.new result }
+    ensures { Put out.old 0 (sheet_text sizes table.now) out.new result }
 {
     let at = put_sizes(out, 0, sizes);
     put_nonterminals(out, at, sizes, table)
@@ -87,7 +87,7 @@ fn put_sheet(out: &mut [u8], sizes: Sizes, table: &[u32]) -> usize
 
 // Sizes within the limits as they are; none for others, as those of no grammar that passes are.
 fn limited_sizes(sizes: Sizes) -> Sizes
-    ensures { result ≡ limitedSizes sizes }
+    ensures { result ≡ limited_sizes sizes }
 {
     let none = Sizes {
         nonterminals: 0,
@@ -105,7 +105,7 @@ fn limited_sizes(sizes: Sizes) -> Sizes
 
 // What is printed of a check, by what is found: the refusal, or the sheet.
 pub fn put_check(out: &mut [u8], finding: Finding, table: &[u32]) -> usize
-    ensures { Put out.old 0 (checkText (limitedFinding finding) table.now) out.new result }
+    ensures { Put out.old 0 (check_text (limited_finding finding) table.now) out.new result }
 {
     match finding {
         Finding::Refused(error) => put_refusal(out, 0, error),

@@ -1,15 +1,15 @@
 // The words of the spans in lent memory, by start, then by end: the set of the nonterminals that the chart gives a span to. No function requires
 // anything of its numbers.
 ghost use Rattle.std.specs.Prelude.{◌≡◌};
-ghost use Rattle.tabular_promises.specs.contracts.Chart.{oneNonterminal, withNonterminal, spanWord};
-ghost use Rattle.tabular_promises.specs.contracts.Spans.{writtenSpans};
+ghost use Rattle.tabular_promises.specs.inner.Chart.{one_nonterminal, with_nonterminal, span_word};
+ghost use Rattle.tabular_promises.specs.inner.Spans.{written_spans};
 
 use chart::CHART;
 use chart::places::contains;
 use grammar::limits::{NONTERMINALS, SPAN_WORDS, TABULAR_PLACES, TABULAR_TOKENS};
 
 fn one_nonterminal(nonterminal: u32) -> u32
-    ensures { result ≡ oneNonterminal nonterminal }
+    ensures { result ≡ one_nonterminal nonterminal }
 {
     if nonterminal < NONTERMINALS {
         1u32 << nonterminal
@@ -20,7 +20,7 @@ fn one_nonterminal(nonterminal: u32) -> u32
 
 // The nonterminals found, with one more where it is to be.
 pub fn found_by(nonterminal: u32, there: bool, found: u32) -> u32
-    ensures { result ≡ withNonterminal found nonterminal there }
+    ensures { result ≡ with_nonterminal found nonterminal there }
 {
     if there {
         found | one_nonterminal(nonterminal)
@@ -31,7 +31,7 @@ pub fn found_by(nonterminal: u32, there: bool, found: u32) -> u32
 
 // The nonterminals that the chart gives a span to.
 pub fn word_at(chart: &[u64; CHART], nonterminals: u32, start: usize, end: usize) -> u32
-    ensures { result ≡ spanWord chart.now nonterminals start end }
+    ensures { result ≡ span_word chart.now nonterminals start end }
 {
     if NONTERMINALS < nonterminals {
         return 0;
@@ -51,7 +51,7 @@ pub fn word_at(chart: &[u64; CHART], nonterminals: u32, start: usize, end: usize
 
 // Of an input that is too long, or into memory that is too short, nothing is written.
 pub fn write(chart: &[u64; CHART], nonterminals: u32, tokens: usize, spans: &mut [u32])
-    ensures { spans.new ≡ writtenSpans chart.now nonterminals tokens spans.old }
+    ensures { spans.new ≡ written_spans chart.now nonterminals tokens spans.old }
 {
     if TABULAR_TOKENS < tokens {
         return;

@@ -9,11 +9,11 @@ use lib.ListN.{length, get_or, set, length-set}
 use lib.Seq.{get_or-set_same, get_or-set_other}
 use Rattle.base.specs.Choice.{choose}
 use Rattle.lookahead.specs.Elements.{has}
-use Rattle.table.specs.contracts.Entries.{FilledRow}
+use Rattle.table.specs.inner.Entries.{FilledRow}
 
 -- the columns of a row
-pub row-none : (table : List ℕ) (row : ℕ) (element : ℕ → ℕ) (claim rule : ℕ) → FilledRow table row element 0 claim rule table
-row-none table row element claim rule = record { long = refl; inside = λ c h. absurd (omega arith); outside = λ i h. refl }
+pub row_none : (table : List ℕ) (row : ℕ) (element : ℕ → ℕ) (claim rule : ℕ) → FilledRow table row element 0 claim rule table
+row_none table row element claim rule = record { long = refl; inside = λ c h. absurd (omega arith); outside = λ i h. refl }
 
 pub row_more : {before : List ℕ} {row : ℕ} {element : ℕ → ℕ} {n claim rule : ℕ} {after : List ℕ} {v : ℕ}
     → FilledRow before row element n claim rule after

@@ -5,45 +5,45 @@ use mathlib.Core.List.{[], ◌∷◌}
 use Prim.Native.Nat.{ℕ, ◌≤◌, ◌<◌}
 use native.Mathlib.Omega.{arith}
 use lib.Dec.{T, eqb, ltb, eqb→eq, eqb_refl, lt→ltb}
-use Rattle.base.proofs.Booleans.{and_r, and-make, both}
+use Rattle.base.proofs.Booleans.{and_r, and_make, both}
 use Rattle.lookahead.specs.declared.Lookahead.{Lookahead}
 use Rattle.lookahead.specs.declared.Lookahead.TheVariants.{One, Two}
-use Rattle.lookahead.specs.contracts.Lookaheads.{alphabet}
-use Rattle.lookahead.specs.Lookaheads.{elementOf, stringOf}
+use Rattle.lookahead.specs.inner.Lookaheads.{alphabet}
+use Rattle.lookahead.specs.Lookaheads.{element_of, string_of}
 use Rattle.lookahead.specs.Elements.{has}
-use Rattle.lookahead.specs.contracts.Operations.{terminal}
-use Rattle.lookahead.proofs.Operations.{has-choose, has-terminal}
-use Rattle.lookahead.proofs.Strings.{element-string, string-terminal}
-use Rattle.base.specs.Strings.{sameString}
-use Rattle.base.proofs.LookaheadStrings.{strings-equality}
-use Rattle.claims.specs.contracts.Overruns.{overrunSet}
-use Rattle.columns.specs.Columns.{columnCount, columnString}
-use Rattle.columns.specs.contracts.Columns.{columnElement}
-use Rattle.columns.proofs.ColumnStrings.{column-string}
+use Rattle.lookahead.specs.inner.Operations.{terminal}
+use Rattle.lookahead.proofs.Operations.{has_choose, has_terminal}
+use Rattle.lookahead.proofs.Strings.{element_string, string_terminal}
+use Rattle.base.specs.Strings.{same_string}
+use Rattle.base.proofs.LookaheadStrings.{strings_equality}
+use Rattle.claims.specs.inner.Overruns.{overrun_set}
+use Rattle.columns.specs.Columns.{column_count, column_string}
+use Rattle.columns.specs.inner.Columns.{column_element}
+use Rattle.columns.proofs.ColumnStrings.{column_string_lem}
 
-some-terminal : (k : Lookahead) → 0 < alphabet k
-some-terminal One = omega arith
-some-terminal Two = omega arith
+some_terminal : (k : Lookahead) → 0 < alphabet k
+some_terminal One = omega arith
+some_terminal Two = omega arith
 
 -- the first terminal's element has its string's column
-first-terminal : (k : Lookahead) (l : ℕ) → (ltb 0 (alphabet k) && eqb l (elementOf k (0 ∷ []))) ≡ sameString (0 ∷ []) (stringOf k l)
-first-terminal k l = both (ltb 0 (alphabet k) && eqb l (elementOf k (0 ∷ []))) (sameString (0 ∷ []) (stringOf k l)) there back
+first_terminal : (k : Lookahead) (l : ℕ) → (ltb 0 (alphabet k) && eqb l (element_of k (0 ∷ []))) ≡ same_string (0 ∷ []) (string_of k l)
+first_terminal k l = both (ltb 0 (alphabet k) && eqb l (element_of k (0 ∷ []))) (same_string (0 ∷ []) (string_of k l)) there back
   where
     low : 0 < alphabet k
-    low = some-terminal k
+    low = some_terminal k
 
-    there : T (ltb 0 (alphabet k) && eqb l (elementOf k (0 ∷ []))) → T (sameString (0 ∷ []) (stringOf k l))
+    there : T (ltb 0 (alphabet k) && eqb l (element_of k (0 ∷ []))) → T (same_string (0 ∷ []) (string_of k l))
     there t =
-        let e : l ≡ elementOf k (0 ∷ []) = eqb→eq l (elementOf k (0 ∷ [])) (and_r (ltb 0 (alphabet k)) _ t) in
-        rw (e, string-terminal k 0 low) (strings-equality.itself (0 ∷ []))
+        let e : l ≡ element_of k (0 ∷ []) = eqb→eq l (element_of k (0 ∷ [])) (and_r (ltb 0 (alphabet k)) _ t) in
+        rw (e, string_terminal k 0 low) (strings_equality.itself (0 ∷ []))
 
-    back : T (sameString (0 ∷ []) (stringOf k l)) → T (ltb 0 (alphabet k) && eqb l (elementOf k (0 ∷ [])))
+    back : T (same_string (0 ∷ []) (string_of k l)) → T (ltb 0 (alphabet k) && eqb l (element_of k (0 ∷ [])))
     back t =
-        let e : elementOf k (0 ∷ []) ≡ l = ap (elementOf k) (strings-equality.equal (0 ∷ []) (stringOf k l) t) ∙ element-string k l in
-        and-make (ltb 0 (alphabet k)) (eqb l (elementOf k (0 ∷ []))) (lt→ltb 0 (alphabet k) low) (rw e (eqb_refl l))
+        let e : element_of k (0 ∷ []) ≡ l = ap (element_of k) (strings_equality.equal (0 ∷ []) (string_of k l) t) ∙ element_string k l in
+        and_make (ltb 0 (alphabet k)) (eqb l (element_of k (0 ∷ []))) (lt→ltb 0 (alphabet k) low) (rw e (eqb_refl l))
 
-pub overrun-column : (k : Lookahead) (b : Bool) (t c : ℕ) → t ≤ alphabet k → c < columnCount k t
-    → has (overrunSet k b) (columnElement k t c) ≡ (b && sameString (0 ∷ []) (columnString k t c))
-overrun-column k b t c few h =
-    has-choose b (terminal k 0) (columnElement k t c)
-    ∙ ap (λ x. b && x) (has-terminal k 0 (columnElement k t c) ∙ first-terminal k (columnElement k t c) ∙ ap (sameString (0 ∷ [])) (column-string k t c few h))
+pub overrun_column : (k : Lookahead) (b : Bool) (t c : ℕ) → t ≤ alphabet k → c < column_count k t
+    → has (overrun_set k b) (column_element k t c) ≡ (b && same_string (0 ∷ []) (column_string k t c))
+overrun_column k b t c few h =
+    has_choose b (terminal k 0) (column_element k t c)
+    ∙ ap (λ x. b && x) (has_terminal k 0 (column_element k t c) ∙ first_terminal k (column_element k t c) ∙ ap (same_string (0 ∷ [])) (column_string_lem k t c few h))

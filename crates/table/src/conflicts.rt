@@ -1,12 +1,12 @@
 // Conflicts: the first entry that two rules claim, read off what each rule claims, or that is reported of a nonterminal that overruns.
 ghost use Rattle.std.specs.Prelude.{◌≡◌, ◌≤◌, length};
-ghost use Rattle.grammar.specs.Limits.{maxNonterminals};
-ghost use Rattle.lookahead.specs.contracts.Lookaheads.{alphabet};
-ghost use Rattle.columns.specs.Columns.{columnCount};
-ghost use Rattle.columns.specs.contracts.Columns.{columnElement};
-ghost use Rattle.claims.specs.contracts.Claims.{Headed};
-ghost use Rattle.table_promises.specs.Conflicts.{rowConflict, conflictFrom};
-ghost use Rattle.table.specs.contracts.Conflicts.{in_set, inSets, conflictOf, Twice};
+ghost use Rattle.grammar.specs.Limits.{max_nonterminals};
+ghost use Rattle.lookahead.specs.inner.Lookaheads.{alphabet};
+ghost use Rattle.columns.specs.Columns.{column_count};
+ghost use Rattle.columns.specs.inner.Columns.{column_element};
+ghost use Rattle.claims.specs.inner.Claims.{Headed};
+ghost use Rattle.table_promises.specs.Conflicts.{row_conflict, conflict_from};
+ghost use Rattle.table.specs.inner.Conflicts.{in_set, in_sets, conflict_of, Twice};
 
 use claim_steps::note;
 use columns::{count, element};
@@ -24,7 +24,7 @@ fn claimed_twice(
     told: [u64; SETS],
     sizes: Sizes,
 ) -> [u64; SETS]
-    requires { Headed heads.now sizes.rules sizes.nonterminals × (length told ≡ maxNonterminals) }
+    requires { Headed heads.now sizes.rules sizes.nonterminals × (length told ≡ max_nonterminals) }
     ensures { Twice heads.now sets.now told sizes.rules result }
 {
     let mut once = [0u64; SETS];
@@ -46,7 +46,7 @@ fn first_column(
     lookahead: Lookahead,
 ) -> Conflict
     requires { terminals ≤ alphabet lookahead }
-    ensures { result ≡ rowConflict (in_set (columnElement lookahead terminals) set.bits) nonterminal 0 (columnCount lookahead terminals) }
+    ensures { result ≡ row_conflict (in_set (column_element lookahead terminals) set.bits) nonterminal 0 (column_count lookahead terminals) }
 {
     if set.is_empty() {
         return Conflict::Absent;
@@ -67,9 +67,9 @@ fn first_column(
 
 // The first entry whose element is in the set of its nonterminal.
 fn first_entry(sets: &[u64; SETS], sizes: Sizes, lookahead: Lookahead) -> Conflict
-    requires { (sizes.nonterminals ≤ maxNonterminals) × (sizes.terminals ≤ alphabet lookahead) }
-    ensures { result ≡ conflictFrom (inSets (columnElement lookahead sizes.terminals) sets.now)
-        (columnCount lookahead sizes.terminals) 0 sizes.nonterminals }
+    requires { (sizes.nonterminals ≤ max_nonterminals) × (sizes.terminals ≤ alphabet lookahead) }
+    ensures { result ≡ conflict_from (in_sets (column_element lookahead sizes.terminals) sets.now)
+        (column_count lookahead sizes.terminals) 0 sizes.nonterminals }
 {
     let nonterminals = sizes.nonterminals;
     let terminals = sizes.terminals;
@@ -95,8 +95,8 @@ pub(crate) fn first_conflict(
     sizes: Sizes,
     lookahead: Lookahead,
 ) -> Conflict
-    requires { Headed heads.now sizes.rules sizes.nonterminals × (sizes.terminals ≤ alphabet lookahead) × (length overruns ≡ maxNonterminals) }
-    ensures { result ≡ conflictOf lookahead sizes heads.now sets.now overruns }
+    requires { Headed heads.now sizes.rules sizes.nonterminals × (sizes.terminals ≤ alphabet lookahead) × (length overruns ≡ max_nonterminals) }
+    ensures { result ≡ conflict_of lookahead sizes heads.now sets.now overruns }
 {
     let twice = claimed_twice(heads, sets, overruns, sizes);
     first_entry(&twice, sizes, lookahead)

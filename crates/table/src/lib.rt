@@ -1,7 +1,7 @@
 // The LL(1) and the LL(2) table of an encoded grammar.
 ghost use Rattle.std.specs.Prelude.{◌≡◌};
-ghost use Rattle.table_promises.specs.Analysis.{conflictError};
-ghost use Rattle.table.specs.contracts.Analysis.{foundWith, foundOf};
+ghost use Rattle.table_promises.specs.Analysis.{conflict_error};
+ghost use Rattle.table.specs.inner.Analysis.{found_with, found_of};
 
 use answer::Error;
 use claims::analyze;
@@ -27,7 +27,7 @@ pub struct Found {
 }
 
 fn conflict_error(nonterminal: u8, column: u8, lookahead: Lookahead) -> Error
-    ensures { result ≡ conflictError lookahead nonterminal column }
+    ensures { result ≡ conflict_error lookahead nonterminal column }
 {
     match lookahead {
         Lookahead::One => Error::Conflict {
@@ -50,8 +50,8 @@ pub fn find_into(
     follows: &mut [u64; SETS],
     entries: &mut [u8; ENTRIES],
 ) -> Finding
-    ensures { foundWith result starts.new firsts.new follows.new entries.new
-        ≡ foundOf lookahead words.now }
+    ensures { found_with result starts.new firsts.new follows.new entries.new
+        ≡ found_of lookahead words.now }
 {
     let mut heads = [0u8; RULES];
     let mut sets = [0u64; RULES];

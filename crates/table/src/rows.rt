@@ -1,11 +1,11 @@
 // The entries of the table: a row for each nonterminal, and in each column the rule that claims it.
 ghost use Rattle.std.specs.Prelude.{◌≡◌, ◌+◌, ◌≤◌, length};
-ghost use Rattle.grammar.specs.contracts.Limits.{maxEntries};
-ghost use Rattle.lookahead.specs.contracts.Lookaheads.{alphabet};
-ghost use Rattle.base.specs.FiniteSets.{numbersBelow};
-ghost use Rattle.columns.specs.Columns.{columnCount};
-ghost use Rattle.columns.specs.contracts.Columns.{columnElement};
-ghost use Rattle.table.specs.contracts.Entries.{FilledRow, rows_of, RowsGiven, FilledRows, noRules};
+ghost use Rattle.grammar.specs.inner.Limits.{max_entries};
+ghost use Rattle.lookahead.specs.inner.Lookaheads.{alphabet};
+ghost use Rattle.base.specs.FiniteSets.{numbers_below};
+ghost use Rattle.columns.specs.Columns.{column_count};
+ghost use Rattle.columns.specs.inner.Columns.{column_element};
+ghost use Rattle.table.specs.inner.Entries.{FilledRow, rows_of, RowsGiven, FilledRows, no_rules};
 
 use claim_steps::entry;
 use columns::{count, element};
@@ -24,8 +24,8 @@ fn fill_row(
     rule: u8,
     lookahead: Lookahead,
 )
-    requires { (length entries.old ≡ maxEntries) × (terminals ≤ alphabet lookahead) × (row + columnCount lookahead terminals ≤ maxEntries) }
-    ensures { FilledRow entries.old row (columnElement lookahead terminals) (columnCount lookahead terminals)
+    requires { (length entries.old ≡ max_entries) × (terminals ≤ alphabet lookahead) × (row + column_count lookahead terminals ≤ max_entries) }
+    ensures { FilledRow entries.old row (column_element lookahead terminals) (column_count lookahead terminals)
         claim.bits rule entries.new }
 {
     let columns = count(lookahead, terminals);
@@ -52,7 +52,7 @@ pub(crate) fn rows(
 )
     requires { RowsGiven lookahead sizes heads.now }
     ensures { FilledRows (rows_of lookahead sizes.nonterminals sizes.terminals) heads.now sets.now
-        0 (numbersBelow sizes.rules) noRules entries.new }
+        0 (numbers_below sizes.rules) no_rules entries.new }
 {
     let terminals = sizes.terminals;
     let columns = count(lookahead, terminals);

@@ -12,18 +12,18 @@ use Rattle.base.specs.Choice.{choose}
 use Rattle.grammar.specs.Syntax.{Grammar}
 use Rattle.lookahead.specs.declared.Lookahead.{Lookahead}
 use Rattle.lookahead.specs.Lookaheads.{tokens}
-use Rattle.lookahead.specs.contracts.Lookaheads.{alphabet}
+use Rattle.lookahead.specs.inner.Lookaheads.{alphabet}
 use Rattle.semantics.specs.FirstFollow.{Entry, entries}
 use Rattle.base.specs.Strings.{Lookahead as Looked}
 use Rattle.semantics.specs.Claims.{clashing, clashes}
-use Rattle.semantics.proofs.families.Claims.{clashing-elim, clashes-make}
-use Rattle.base.proofs.FiniteSets.{keep-elim}
-use Rattle.semantics.proofs.families.LookaheadSets.{entries-elim}
+use Rattle.semantics.proofs.families.Claims.{clashing_elim, clashes_make}
+use Rattle.base.proofs.FiniteSets.{keep_elim}
+use Rattle.semantics.proofs.families.LookaheadSets.{entries_elim}
 use Rattle.table_promises.specs.declared.Conflict.{Conflict}
 use Rattle.table_promises.specs.declared.Conflict.TheVariants.{Absent, At}
-use Rattle.columns.specs.Columns.{columnString, columnOf, columns}
-use Rattle.table_promises.specs.Conflicts.{rowConflict, orLater, conflictFrom, firstClash, FirstClash}
-use Rattle.columns.proofs.ColumnStrings.{column-back, column-in, string-column}
+use Rattle.columns.specs.Columns.{column_string, column_of, columns}
+use Rattle.table_promises.specs.Conflicts.{row_conflict, or_later, conflict_from, first_clash, FirstClash}
+use Rattle.columns.proofs.ColumnStrings.{column_back, column_in, string_column}
 
 -- by nonterminal, then column
 abbrev pub NotBefore : ℕ → ℕ → ℕ → ℕ → Type 0
@@ -34,10 +34,10 @@ abbrev RowScanned : (ℕ → Bool) → ℕ → ℕ → ℕ → Conflict → Type
 RowScanned p A c n Absent = (d : ℕ) → c ≤ d → d < c + n → T (p d) → ⊥
 RowScanned p A c n (At B d) = (A ≡ B) × (c ≤ d) × (d < c + n) × T (p d) × ((e : ℕ) → c ≤ e → e < c + n → T (p e) → d ≤ e)
 
-row-scanned : (p : ℕ → Bool) (A c n : ℕ) → RowScanned p A c n (rowConflict p A c n)
-unfolding rowConflict
-row-scanned p A c zero = λ d l h t. absurd (omega arith)
-row-scanned p A c (suc n) = go (p c) refl (rowConflict p A (suc c) n) (row-scanned p A (suc c) n)
+row_scanned : (p : ℕ → Bool) (A c n : ℕ) → RowScanned p A c n (row_conflict p A c n)
+unfolding row_conflict
+row_scanned p A c zero = λ d l h t. absurd (omega arith)
+row_scanned p A c (suc n) = go (p c) refl (row_conflict p A (suc c) n) (row_scanned p A (suc c) n)
   where
     go : (b : Bool) → p c ≡ b → (r : Conflict) → RowScanned p A (suc c) n r → RowScanned p A c (suc n) (choose b (At A c) r)
     go true e r s = (refl, omega arith, omega arith, rw e tt, λ d l h t. l)
@@ -58,13 +58,13 @@ Scanned p columns A n Absent = (B d : ℕ) → A ≤ B → B < A + n → d < col
 Scanned p columns A n (At B c) =
     (A ≤ B) × (B < A + n) × (c < columns) × T (p B c) × ((D d : ℕ) → A ≤ D → D < A + n → d < columns → T (p D d) → NotBefore B c D d)
 
-scanned : (p : ℕ → ℕ → Bool) (columns A n : ℕ) → Scanned p columns A n (conflictFrom p columns A n)
-unfolding conflictFrom
+scanned : (p : ℕ → ℕ → Bool) (columns A n : ℕ) → Scanned p columns A n (conflict_from p columns A n)
+unfolding conflict_from
 scanned p columns A zero = λ B d l h k t. absurd (omega arith)
 scanned p columns A (suc n) =
-    go (rowConflict (p A) A 0 columns) (row-scanned (p A) A 0 columns) (conflictFrom p columns (suc A) n) (scanned p columns (suc A) n)
+    go (row_conflict (p A) A 0 columns) (row_scanned (p A) A 0 columns) (conflict_from p columns (suc A) n) (scanned p columns (suc A) n)
   where
-    go : (r : Conflict) → RowScanned (p A) A 0 columns r → (r' : Conflict) → Scanned p columns (suc A) n r' → Scanned p columns A (suc n) (orLater r r')
+    go : (r : Conflict) → RowScanned (p A) A 0 columns r → (r' : Conflict) → Scanned p columns (suc A) n r' → Scanned p columns A (suc n) (or_later r r')
     go (At B c) r r' s = (
       omega (arith, r.0),
       omega (arith, r.0),
@@ -101,68 +101,68 @@ module _ (k : Lookahead) (G : Grammar) where
   abbrev n : ℕ
   n = tokens k
 
-  scan : Scanned (λ A c. clashing G n (A, columnString k t c)) (columns k G) 0 G.nonterminals (firstClash k G)
-  unfolding firstClash
+  scan : Scanned (λ A c. clashing G n (A, column_string k t c)) (columns k G) 0 G.nonterminals (first_clash k G)
+  unfolding first_clash
   scan = scanned _ (columns k G) 0 G.nonterminals
 
   -- a clash is one of an entry, in its string's column
-  clash-entry : (e : Entry) → Memᴰ e (clashes G n) → (e.0 < G.nonterminals) × Looked n t e.1 × T (clashing G n e)
+  clash_entry : (e : Entry) → Memᴰ e (clashes G n) → (e.0 < G.nonterminals) × Looked n t e.1 × T (clashing G n e)
   unfolding clashes
-  clash-entry e m =
-      let h = keep-elim (clashing G n) (entries G n) e m in
-      let l = entries-elim G n e h.0 in
+  clash_entry e m =
+      let h = keep_elim (clashing G n) (entries G n) e m in
+      let l = entries_elim G n e h.0 in
       (l.0, l.1, h.1)
 
   -- where the first clash stands
-  pub clash-at : {A c : ℕ} → firstClash k G ≡ At A c → (A < G.nonterminals) × (c < columns k G)
-  clash-at e = let s = rw e at scan in (omega (arith, s.1), s.2)
+  pub clash_at : {A c : ℕ} → first_clash k G ≡ At A c → (A < G.nonterminals) × (c < columns k G)
+  clash_at e = let s = rw e at scan in (omega (arith, s.1), s.2)
 
   module _ (few : t ≤ alphabet k) where
-    in-column : (B : ℕ) (x : List ℕ) → Looked n t x → T (clashing G n (B, x)) → T (clashing G n (B, columnString k t (columnOf k t x)))
-    in-column B x l h = subst (λ y. T (clashing G n (B, y))) (sym (string-column k t x few l)) h
+    in_column : (B : ℕ) (x : List ℕ) → Looked n t x → T (clashing G n (B, x)) → T (clashing G n (B, column_string k t (column_of k t x)))
+    in_column B x l h = subst (λ y. T (clashing G n (B, y))) (sym (string_column k t x few l)) h
 
-    pub clash-first : {A c : ℕ} → firstClash k G ≡ At A c → FirstClash k G A c
-    clash-first {A} {c} e =
+    pub clash_first : {A c : ℕ} → first_clash k G ≡ At A c → FirstClash k G A c
+    clash_first {A} {c} e =
         let s = rw e at scan in
         record {
-          string = columnString k t c;
-          clash = clashing-elim G n A (columnString k t c) s.3;
-          stands = column-back k t c;
+          string = column_string k t c;
+          clash = clashing_elim G n A (column_string k t c) s.3;
+          stands = column_back k t c;
           first = λ B x h.
-              let d = clash-entry (B, x) (clashes-make G n B x h) in
-              s.4 B (columnOf k t x) (omega arith) (omega (arith, d.0)) (column-in k t x few d.1) (in-column B x d.1 d.2);
+              let d = clash_entry (B, x) (clashes_make G n B x h) in
+              s.4 B (column_of k t x) (omega arith) (omega (arith, d.0)) (column_in k t x few d.1) (in_column B x d.1 d.2);
         }
 
-    pub first-clash : {A c : ℕ} → FirstClash k G A c → firstClash k G ≡ At A c
-    first-clash {A} {c} f = go (firstClash k G) refl
+    pub first_clash_lem : {A c : ℕ} → FirstClash k G A c → first_clash k G ≡ At A c
+    first_clash_lem {A} {c} f = go (first_clash k G) refl
       where
-        go : (r : Conflict) → firstClash k G ≡ r → firstClash k G ≡ At A c
+        go : (r : Conflict) → first_clash k G ≡ r → first_clash k G ≡ At A c
         go Absent e =
-            let d = clash-entry (A, f.string) (clashes-make G n A f.string f.clash) in
+            let d = clash_entry (A, f.string) (clashes_make G n A f.string f.clash) in
             let s = rw e at scan in
-            absurd (s A (columnOf k t f.string) (omega arith) (omega (arith, d.0)) (column-in k t f.string few d.1)
-            (in-column A f.string d.1 d.2))
+            absurd (s A (column_of k t f.string) (omega arith) (omega (arith, d.0)) (column_in k t f.string few d.1)
+            (in_column A f.string d.1 d.2))
         go (At B d) e =
-            let g = clash-first e in
+            let g = clash_first e in
             let p : NotBefore A c B d = subst (λ m. NotBefore A c B m) g.stands (f.first B g.string g.clash) in
             let q : NotBefore B d A c = subst (λ m. NotBefore B d A m) f.stands (g.first A f.string f.clash) in
             let s = same_place q p in
             e ∙ ap₂ At s.0 s.1
 
     -- none is found just where there is none
-    pub clash-absent : (firstClash k G ≡ Absent) ↔ (clashes G n ≡ [])
-    clash-absent = (λ e. none (clashes G n) refl e, λ e. absent (firstClash k G) refl e)
+    pub clash_absent : (first_clash k G ≡ Absent) ↔ (clashes G n ≡ [])
+    clash_absent = (λ e. none (clashes G n) refl e, λ e. absent (first_clash k G) refl e)
       where
-        none : (l : List Entry) → clashes G n ≡ l → firstClash k G ≡ Absent → clashes G n ≡ []
+        none : (l : List Entry) → clashes G n ≡ l → first_clash k G ≡ Absent → clashes G n ≡ []
         none [] e a = e
         none (x ∷ l) e a =
-            let d = clash-entry x (rw e (Memᴰ.head refl)) in
+            let d = clash_entry x (rw e (Memᴰ.head refl)) in
             let s = rw a at scan in
-            absurd (s x.0 (columnOf k t x.1) (omega arith) (omega (arith, d.0)) (column-in k t x.1 few d.1)
-            (in-column x.0 x.1 d.1 d.2))
+            absurd (s x.0 (column_of k t x.1) (omega arith) (omega (arith, d.0)) (column_in k t x.1 few d.1)
+            (in_column x.0 x.1 d.1 d.2))
 
-        absent : (r : Conflict) → firstClash k G ≡ r → clashes G n ≡ [] → firstClash k G ≡ Absent
+        absent : (r : Conflict) → first_clash k G ≡ r → clashes G n ≡ [] → first_clash k G ≡ Absent
         absent Absent e z = e
         absent (At A c) e z =
             let s = rw e at scan in
-            absurd (Memᴰ.not-nil (rw z at (clashes-make G n A (columnString k t c) (clashing-elim G n A (columnString k t c) s.3))))
+            absurd (Memᴰ.not-nil (rw z at (clashes_make G n A (column_string k t c) (clashing_elim G n A (column_string k t c) s.3))))

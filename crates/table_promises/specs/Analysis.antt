@@ -3,27 +3,27 @@ use Rattle.std.specs.Prelude.{List, [], ◌∷◌, ◌++◌, ℕ}
 use Rattle.std.proofs.Math.Option.{Option, none, some}
 use Rattle.answer.specs.declared.Error.{Error}
 use Rattle.answer.specs.declared.Error.TheVariants as error
-use Rattle.answer.specs.Faults.{firstFault}
-use Rattle.grammar.specs.Encoding.{grammarOf}
+use Rattle.answer.specs.Faults.{first_fault}
+use Rattle.grammar.specs.Encoding.{grammar_of}
 use Rattle.lookahead.specs.declared.Lookahead.{Lookahead}
 use Rattle.lookahead.specs.declared.Lookahead.TheVariants.{One, Two}
-use Rattle.families.specs.Analysis.{setsFaults}
+use Rattle.families.specs.Analysis.{sets_faults}
 use Rattle.table_promises.specs.declared.Conflict.{Conflict}
 use Rattle.table_promises.specs.declared.Conflict.TheVariants.{Absent, At}
-use Rattle.table_promises.specs.Conflicts.{firstClash}
+use Rattle.table_promises.specs.Conflicts.{first_clash}
 
 -- 9: the first clash, by nonterminal, then column
-abbrev pub conflictError : Lookahead → ℕ → ℕ → Error
-conflictError One A c = error.Conflict A c
-conflictError Two A c = error.ConflictOfTwo A c
+abbrev pub conflict_error : Lookahead → ℕ → ℕ → Error
+conflict_error One A c = error.Conflict A c
+conflict_error Two A c = error.ConflictOfTwo A c
 
-abbrev pub clashFault : Lookahead → Conflict → Option Error
-clashFault k Absent = none
-clashFault k (At A c) = some (conflictError k A c)
+abbrev pub clash_fault : Lookahead → Conflict → Option Error
+clash_fault k Absent = none
+clash_fault k (At A c) = some (conflict_error k A c)
 
 -- the faults of an encoded grammar, in the papers' order: 3 to 8, 13 and 18 come first
-abbrev pub grammarFaults : Lookahead → List ℕ → List (Option Error)
-grammarFaults k words = setsFaults k words ++ clashFault k (firstClash k (grammarOf words)) ∷ []
+abbrev pub grammar_faults : Lookahead → List ℕ → List (Option Error)
+grammar_faults k words = sets_faults k words ++ clash_fault k (first_clash k (grammar_of words)) ∷ []
 
 unfoldable pub fault : Lookahead → List ℕ → Option Error
-fault k words = firstFault (grammarFaults k words)
+fault k words = first_fault (grammar_faults k words)

@@ -9,25 +9,25 @@ use Rattle.semantics.specs.FirstFollow.{First, Follow}
 use Rattle.semantics.specs.Claims.{clashing}
 use Rattle.table_promises.specs.declared.Conflict.{Conflict}
 use Rattle.table_promises.specs.declared.Conflict.TheVariants.{Absent, At}
-use Rattle.columns.specs.Columns.{columnString, columnOf, columns}
+use Rattle.columns.specs.Columns.{column_string, column_of, columns}
 
 -- the first of n columns of A, from one on, that passes a test
-unfoldable pub rowConflict : (ℕ → Bool) → ℕ → ℕ → ℕ → Conflict
-rowConflict p A c zero = Absent
-rowConflict p A c (suc n) = choose (p c) (At A c) (rowConflict p A (suc c) n)
+unfoldable pub row_conflict : (ℕ → Bool) → ℕ → ℕ → ℕ → Conflict
+row_conflict p A c zero = Absent
+row_conflict p A c (suc n) = choose (p c) (At A c) (row_conflict p A (suc c) n)
 
-abbrev pub orLater : Conflict → Conflict → Conflict
-orLater Absent later = later
-orLater (At A c) later = At A c
+abbrev pub or_later : Conflict → Conflict → Conflict
+or_later Absent later = later
+or_later (At A c) later = At A c
 
 -- the first entry of n rows, from one on, that passes
-unfoldable pub conflictFrom : (ℕ → ℕ → Bool) → ℕ → ℕ → ℕ → Conflict
-conflictFrom p columns A zero = Absent
-conflictFrom p columns A (suc n) = orLater (rowConflict (p A) A 0 columns) (conflictFrom p columns (suc A) n)
+unfoldable pub conflict_from : (ℕ → ℕ → Bool) → ℕ → ℕ → ℕ → Conflict
+conflict_from p columns A zero = Absent
+conflict_from p columns A (suc n) = or_later (row_conflict (p A) A 0 columns) (conflict_from p columns (suc A) n)
 
 -- the first entry that clashes (document 01: the first such cell)
-unfoldable pub firstClash : Lookahead → Grammar → Conflict
-firstClash k G = conflictFrom (λ A c. clashing G (tokens k) (A, columnString k G.terminals c)) (columns k G) 0 G.nonterminals
+unfoldable pub first_clash : Lookahead → Grammar → Conflict
+first_clash k G = conflict_from (λ A c. clashing G (tokens k) (A, column_string k G.terminals c)) (columns k G) 0 G.nonterminals
 
 abbrev pub ClashAt : Lookahead → Grammar → ℕ → List ℕ → Type 0
 ClashAt k G = Clash G (tokens k) (First G (tokens k)) (Follow G (tokens k))
@@ -36,5 +36,5 @@ ClashAt k G = Clash G (tokens k) (First G (tokens k)) (Follow G (tokens k))
 pub record FirstClash (k : Lookahead) (G : Grammar) (A c : ℕ) : Type 0 where
   pub string : List ℕ
   pub clash : ClashAt k G A string
-  pub stands : columnOf k G.terminals string ≡ c
-  pub first : (B : ℕ) (x : List ℕ) → ClashAt k G B x → (A < B) ⊎ ((A ≡ B) × (c ≤ columnOf k G.terminals x))
+  pub stands : column_of k G.terminals string ≡ c
+  pub first : (B : ℕ) (x : List ℕ) → ClashAt k G B x → (A < B) ⊎ ((A ≡ B) × (c ≤ column_of k G.terminals x))

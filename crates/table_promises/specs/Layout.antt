@@ -2,36 +2,36 @@
 use Rattle.std.specs.Prelude.{List, ◌++◌, ℕ, ◌*◌, ◌/◌, ◌%◌, eqb}
 use Rattle.std.proofs.Math.Option.{Option, none, some}
 use Rattle.base.specs.Choice.{choose}
-use Rattle.grammar.specs.Codes.{noEntry}
-use Rattle.grammar.specs.Limits.{maxTableWords, maxTableWordsOfTwo}
+use Rattle.grammar.specs.Codes.{no_entry}
+use Rattle.grammar.specs.Limits.{max_table_words, max_table_words_of_two}
 use Rattle.grammar.specs.Syntax.{Grammar}
 use Rattle.lookahead.specs.declared.Lookahead.{Lookahead}
 use Rattle.lookahead.specs.declared.Lookahead.TheVariants.{One, Two}
 use Rattle.lookahead.specs.Lookaheads.{tokens}
 use Rattle.semantics.specs.Claims.{table_of}
 use Rattle.base.specs.Lists.{listed}
-use Rattle.families.specs.Sets.{firstNumber, followNumber}
-use Rattle.columns.specs.Columns.{columnString, columns}
+use Rattle.families.specs.Sets.{first_number, follow_number}
+use Rattle.columns.specs.Columns.{column_string, columns}
 
-abbrev pub entryWord : Option ℕ → ℕ
-entryWord none = noEntry
-entryWord (some q) = q
+abbrev pub entry_word : Option ℕ → ℕ
+entry_word none = no_entry
+entry_word (some q) = q
 
 unfoldable pub entry_at : Lookahead → Grammar → ℕ → ℕ → ℕ
-entry_at k G A c = entryWord (table_of G (tokens k) A (columnString k G.terminals c))
+entry_at k G A c = entry_word (table_of G (tokens k) A (column_string k G.terminals c))
 
 -- the first set of A at 2 × A, the follow set at 2 × A + 1
-unfoldable pub setWord : Lookahead → Grammar → ℕ → ℕ
-setWord k G i = choose (eqb (i % 2) 0) (firstNumber k G (i / 2)) (followNumber k G (i / 2))
+unfoldable pub set_word : Lookahead → Grammar → ℕ → ℕ
+set_word k G i = choose (eqb (i % 2) 0) (first_number k G (i / 2)) (follow_number k G (i / 2))
 
-unfoldable pub rowWord : Lookahead → Grammar → ℕ → ℕ
-rowWord k G i = entry_at k G (i / columns k G) (i % columns k G)
+unfoldable pub row_word : Lookahead → Grammar → ℕ → ℕ
+row_word k G i = entry_at k G (i / columns k G) (i % columns k G)
 
 -- all of the table
-unfoldable pub tableWords : Lookahead → Grammar → List ℕ
-tableWords k G = listed (2 * G.nonterminals) (setWord k G) ++ listed (G.nonterminals * columns k G) (rowWord k G)
+unfoldable pub table_words : Lookahead → Grammar → List ℕ
+table_words k G = listed (2 * G.nonterminals) (set_word k G) ++ listed (G.nonterminals * columns k G) (row_word k G)
 
 -- the memory that is lent for it
-abbrev pub tableRoom : Lookahead → ℕ
-tableRoom One = maxTableWords
-tableRoom Two = maxTableWordsOfTwo
+abbrev pub table_room : Lookahead → ℕ
+table_room One = max_table_words
+table_room Two = max_table_words_of_two

@@ -1,8 +1,8 @@
 // The chart filled from short spans to long ones, and at each span in the order of rank.
 ghost use Rattle.std.specs.Prelude.{◌+◌};
 ghost use Rattle.event.specs.Events.{input_of};
-ghost use Rattle.grammar.specs.Limits.{maxTabularTokens};
-ghost use Rattle.tabular_promises.specs.contracts.Filling.{DerivedGiven, SpanDerived, turn, Fills, SettleGiven, LengthGiven, FillGiven, Filled};
+ghost use Rattle.grammar.specs.Limits.{max_tabular_tokens};
+ghost use Rattle.tabular_promises.specs.inner.Filling.{DerivedGiven, SpanDerived, turn, Fills, SettleGiven, LengthGiven, FillGiven, Filled};
 
 use chart::{CHART, add};
 use families::SETS;
@@ -53,7 +53,7 @@ fn settle<'a>(
     end: usize,
 )
     requires { SettleGiven words.now starts.now lasts.now befores.now sizes chart.old start end }
-    ensures { Fills words.now stands.now chart.old end maxTabularTokens (turn start end 0)
+    ensures { Fills words.now stands.now chart.old end max_tabular_tokens (turn start end 0)
         (turn (start + 1) (end + 1) 0) chart.new }
 {
     let nonterminals = sizes.nonterminals;

@@ -13,72 +13,72 @@ use lib.Pow.{shl_exact}
 use lib.Seq.{get_or-set_same, get_or-set_other, set_out}
 use borrow.Author.Tests.{eq-eqb, ne_eqb, lt-ltb, le-ltb}
 use Rattle.base.specs.Choice.{choose}
-use Rattle.grammar.specs.Limits.{maxTerminals, maxTabularPlaces, maxNonterminals}
+use Rattle.grammar.specs.Limits.{max_terminals, max_tabular_places, max_nonterminals}
 use Rattle.lookahead.specs.Elements.{has}
-use Rattle.lookahead.proofs.Elements.{has-or, has-zero}
-use Rattle.lookahead.proofs.Powers.{has-pow}
-use Rattle.event.specs.Events.{terminalOf, input_of}
-use Rattle.event.proofs.Inputs.{input-at}
-use Rattle.tabular_promises.specs.contracts.Places.{onePlace, hasPlace, withPlace, PlacePut, Standing, standsTo, standsOf, InputGiven}
+use Rattle.lookahead.proofs.Elements.{has_or, has_zero}
+use Rattle.lookahead.proofs.Powers.{has_pow}
+use Rattle.event.specs.Events.{terminal_of, input_of}
+use Rattle.event.proofs.Inputs.{input_at}
+use Rattle.tabular_promises.specs.inner.Places.{only_place, has_place, with_place, PlacePut, Standing, stands_to, stands_of, InputGiven}
 
 -- a place's weight, and a nonterminal's
-pub weight-64 : (k : ℕ) → k < maxTabularPlaces → 1 * 2 ^ k % 2 ^ 64 ≡ 2 ^ k
-weight-64 k h = shl_exact 1 k 64 (omega arith) (omega arith) ∙ omega arith
+pub weight_64 : (k : ℕ) → k < max_tabular_places → 1 * 2 ^ k % 2 ^ 64 ≡ 2 ^ k
+weight_64 k h = shl_exact 1 k 64 (omega arith) (omega arith) ∙ omega arith
 
-pub weight-32 : (k : ℕ) → k < maxNonterminals → 1 * 2 ^ k % 2 ^ 32 ≡ 2 ^ k
-weight-32 k h = shl_exact 1 k 32 (omega arith) (omega arith) ∙ omega arith
+pub weight_32 : (k : ℕ) → k < max_nonterminals → 1 * 2 ^ k % 2 ^ 32 ≡ 2 ^ k
+weight_32 k h = shl_exact 1 k 32 (omega arith) (omega arith) ∙ omega arith
 
 pub digit : (n k : ℕ) → eqb (bit_and (n / 2 ^ k) 1) 1 ≡ has n k
 unfolding has
 digit n k = ap (λ (d : ℕ). eqb d 1) (and_mask (n / 2 ^ k) 1)
 
 -- a place of an input
-pub one_place : (place : ℕ) → place < maxTabularPlaces → onePlace place ≡ 2 ^ place
-unfolding onePlace
-one_place place h = rw (lt-ltb place maxTabularPlaces h)
+pub one_place : (place : ℕ) → place < max_tabular_places → only_place place ≡ 2 ^ place
+unfolding only_place
+one_place place h = rw (lt-ltb place max_tabular_places h)
 
-pub no_place : (place : ℕ) → maxTabularPlaces ≤ place → 0 ≡ onePlace place
-unfolding onePlace
-no_place place h = rw (le-ltb place maxTabularPlaces h)
+pub no_place : (place : ℕ) → max_tabular_places ≤ place → 0 ≡ only_place place
+unfolding only_place
+no_place place h = rw (le-ltb place max_tabular_places h)
 
-pub has-place : (set place : ℕ) → place < maxTabularPlaces → hasPlace set place ≡ has set place
-unfolding hasPlace
-has-place set place h = rw (lt-ltb place maxTabularPlaces h)
+pub has_place_lem : (set place : ℕ) → place < max_tabular_places → has_place set place ≡ has set place
+unfolding has_place
+has_place_lem set place h = rw (lt-ltb place max_tabular_places h)
 
-pub lacks-place : (set place : ℕ) → maxTabularPlaces ≤ place → false ≡ hasPlace set place
-unfolding hasPlace
-lacks-place set place h = rw (le-ltb place maxTabularPlaces h)
+pub lacks_place : (set place : ℕ) → max_tabular_places ≤ place → false ≡ has_place set place
+unfolding has_place
+lacks_place set place h = rw (le-ltb place max_tabular_places h)
 
 put_in : {s place r : ℕ} {member : Bool} → member ≡ true → r ≡ bit_or s (2 ^ place) → PlacePut s place member r
 put_in {s} {place} {r} {member} m e =
-    record { is = λ k. rw (e, m) (has-or s (2 ^ place) k ∙ ap (has s k ||◌) (has-pow place k ∙ sym (and-true (eqb k place)))) }
+    record { is = λ k. rw (e, m) (has_or s (2 ^ place) k ∙ ap (has s k ||◌) (has_pow place k ∙ sym (and-true (eqb k place)))) }
 
-put-none : {s place : ℕ} {member : Bool} → member ≡ false → PlacePut s place member s
-put-none {s} {place} {member} m =
+put_none : {s place : ℕ} {member : Bool} → member ≡ false → PlacePut s place member s
+put_none {s} {place} {member} m =
     record { is = λ k. rw m (sym (ap (has s k ||◌) (and-false (eqb k place)) ∙ or-false (has s k))) }
 
-pub with-place : {s place r : ℕ} {member : Bool} → place < maxTabularPlaces → r ≡ withPlace s place member → PlacePut s place member r
-unfolding withPlace
-with-place {s} {place} {r} {member} h e = go member e
+pub with_place_lem : {s place r : ℕ} {member : Bool} → place < max_tabular_places → r ≡ with_place s place member → PlacePut s place member r
+unfolding with_place
+with_place_lem {s} {place} {r} {member} h e = go member e
   where
-    go : (b : Bool) → r ≡ choose b (bit_or s (onePlace place)) s → PlacePut s place b r
+    go : (b : Bool) → r ≡ choose b (bit_or s (only_place place)) s → PlacePut s place b r
     go true f = put_in refl (f ∙ ap (bit_or s) (one_place place h))
-    go false f = rw f (put-none refl)
+    go false f = rw f (put_none refl)
 
 -- the first i tokens have been put in
 record StandingTo (w l : List ℕ) (i : ℕ) : Type 0 where
-  pub long : length l ≡ maxTerminals
+  pub long : length l ≡ max_terminals
   pub within : i ≤ length w
-  pub at : (a k : ℕ) → a < maxTerminals → has (get_or l a 0) k ≡ (ltb k i && eqb (get_or w k 0) a)
+  pub at : (a k : ℕ) → a < max_terminals → has (get_or l a 0) k ≡ (ltb k i && eqb (get_or w k 0) a)
 
-standing-start : (w : List ℕ) (n : ℕ) → n ≡ maxTerminals → StandingTo w (replicate n 0) 0
-standing-start w n e = record {
+standing_start : (w : List ℕ) (n : ℕ) → n ≡ max_terminals → StandingTo w (replicate n 0) 0
+standing_start w n e = record {
   long = length-replicate {A = ℕ} n 0 ∙ e;
   within = omega arith;
-  at = λ a k h. rw (get_or-replicate {A = ℕ} n a 0 0 (omega arith), le-ltb k 0 (omega arith)) (has-zero k);
+  at = λ a k h. rw (get_or-replicate {A = ℕ} n a 0 0 (omega arith), le-ltb k 0 (omega arith)) (has_zero k);
 }
 
-one_more : {w l l' : List ℕ} {i r : ℕ} → StandingTo w l i → i < length w → get_or w i 0 < maxTerminals
+one_more : {w l l' : List ℕ} {i r : ℕ} → StandingTo w l i → i < length w → get_or w i 0 < max_terminals
     → PlacePut (get_or l (get_or w i 0) 0) i true r → l' ≡ set l (get_or w i 0) r → StandingTo w l' (i + 1)
 one_more {w} {l} {l'} {i} {r} h o t g e = record {
   long = rw (e, length-set l (get_or w i 0) r) h.long;
@@ -92,7 +92,7 @@ one_more {w} {l} {l'} {i} {r} h o t g e = record {
       | no p ↦ rw (le-ltb k i (omega arith), le-ltb k (suc i) (omega arith))
     ]
 
-    go : (a k : ℕ) → a < maxTerminals → Dec (a ≡ get_or w i 0) → Dec (k ≡ i) → has (get_or (set l (get_or w i 0) r) a 0) k ≡ (ltb k (suc i) && eqb (get_or w k 0) a)
+    go : (a k : ℕ) → a < max_terminals → Dec (a ≡ get_or w i 0) → Dec (k ≡ i) → has (get_or (set l (get_or w i 0) r) a 0) k ≡ (ltb k (suc i) && eqb (get_or w k 0) a)
     go a k b (yes p) (yes q) =
         rw (p, get_or-set_same l (get_or w i 0) r 0 (omega (arith, h.long)), g.is k, eq-eqb k i q, lt-ltb k (suc i) (omega arith), or-true)
         (sym (eq-eqb (get_or w k 0) (get_or w i 0) (ap (λ (n : ℕ). get_or w n 0) q)))
@@ -104,35 +104,35 @@ one_more {w} {l} {l'} {i} {r} h o t g e = record {
     go a k b (no p) (no q) = rw (get_or-set_other l (get_or w i 0) a r 0 p, h.at a k b, later k q)
 
 -- the tokens put in one by one
-stands-long : (w : List ℕ) (n : ℕ) → length (standsTo w n) ≡ maxTerminals
-unfolding standsTo
-stands-long w zero = length-replicate {A = ℕ} maxTerminals 0
-stands-long w (suc n) = length-set (standsTo w n) (get_or w n 0) _ ∙ stands-long w n
+stands_long : (w : List ℕ) (n : ℕ) → length (stands_to w n) ≡ max_terminals
+unfolding stands_to
+stands_long w zero = length-replicate {A = ℕ} max_terminals 0
+stands_long w (suc n) = length-set (stands_to w n) (get_or w n 0) _ ∙ stands_long w n
 
-pub stands-start : (w : List ℕ) → replicate maxTerminals 0 ≡ standsTo w 0
-unfolding standsTo
-stands-start w = refl
+pub stands_start : (w : List ℕ) → replicate max_terminals 0 ≡ stands_to w 0
+unfolding stands_to
+stands_start w = refl
 
-module _ (events : List ℕ) (i : ℕ) {a : ℕ} {l : List ℕ} (h : l ≡ standsTo (input_of events) i) (t : a ≡ terminalOf (get_or events i 0)) where
-  its-token : a ≡ get_or (input_of events) i 0
-  its-token = t ∙ sym (input-at events i)
+module _ (events : List ℕ) (i : ℕ) {a : ℕ} {l : List ℕ} (h : l ≡ stands_to (input_of events) i) (t : a ≡ terminal_of (get_or events i 0)) where
+  its_token : a ≡ get_or (input_of events) i 0
+  its_token = t ∙ sym (input_at events i)
 
-  pub stands-more : {r : ℕ} → r ≡ withPlace (get_or l a 0) i true → set l a r ≡ standsTo (input_of events) (i + 1)
-  unfolding standsTo
-  stands-more e = rw (e, h, its-token, add-one i)
+  pub stands_more : {r : ℕ} → r ≡ with_place (get_or l a 0) i true → set l a r ≡ stands_to (input_of events) (i + 1)
+  unfolding stands_to
+  stands_more e = rw (e, h, its_token, add-one i)
 
-  pub stands-nowhere : maxTerminals ≤ a → l ≡ standsTo (input_of events) (i + 1)
-  unfolding standsTo
-  stands-nowhere o =
+  pub stands_nowhere : max_terminals ≤ a → l ≡ stands_to (input_of events) (i + 1)
+  unfolding stands_to
+  stands_nowhere o =
       let w = input_of events in
-      h ∙ sym (rw (add-one i) (set_out (standsTo w i) (get_or w i 0) _ (omega (arith, stands-long w i, its-token))))
+      h ∙ sym (rw (add-one i) (set_out (stands_to w i) (get_or w i 0) _ (omega (arith, stands_long w i, its_token))))
 
 -- of an input that fits, that is where each terminal stands
-standing-to : (w : List ℕ) → InputGiven w → (i : ℕ) → i ≤ length w → StandingTo w (standsTo w i) i
-unfolding standsTo
-standing-to w g zero h = standing-start w maxTerminals refl
-standing-to w g (suc i) h =
-    rw (← add-one i) (one_more (standing-to w g i (omega arith)) h (g.terminals i h) (with-place (omega (arith, g.short)) refl) refl)
+standing_to : (w : List ℕ) → InputGiven w → (i : ℕ) → i ≤ length w → StandingTo w (stands_to w i) i
+unfolding stands_to
+standing_to w g zero h = standing_start w max_terminals refl
+standing_to w g (suc i) h =
+    rw (← add-one i) (one_more (standing_to w g i (omega arith)) h (g.terminals i h) (with_place_lem (omega (arith, g.short)) refl) refl)
 
-pub standing-right : {w l : List ℕ} → InputGiven w → l ≡ standsOf w → Standing w l
-standing-right {w} g e = rw e record { at = (standing-to w g (length w) (omega arith)).at }
+pub standing_right : {w l : List ℕ} → InputGiven w → l ≡ stands_of w → Standing w l
+standing_right {w} g e = rw e record { at = (standing_to w g (length w) (omega arith)).at }

@@ -1,5 +1,5 @@
 pub mod Spans
 pub mod Answers
 pub mod Properties
-pub mod contracts
+pub mod inner
 pub mod examples

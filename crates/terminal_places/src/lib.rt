@@ -1,7 +1,7 @@
 // Where each terminal stands in an input.
 ghost use Rattle.std.specs.Prelude.{◌≡◌};
 ghost use Rattle.event.specs.Events.{input_of};
-ghost use Rattle.tabular_promises.specs.contracts.Places.{standsOf};
+ghost use Rattle.tabular_promises.specs.inner.Places.{stands_of};
 
 use chart::places::put;
 use event::terminal_of;
@@ -12,7 +12,7 @@ pub const STANDS: usize = TERMINALS as usize;
 
 // Of the input that the events are. What is no terminal stands nowhere.
 pub fn standing(events: &[u8]) -> [u64; STANDS]
-    ensures { result ≡ standsOf (input_of events.now) }
+    ensures { result ≡ stands_of (input_of events.now) }
 {
     let mut stands = [0u64; STANDS];
     let mut at = 0;

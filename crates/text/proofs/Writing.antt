@@ -11,26 +11,26 @@ use lib.Seq.{sets, sets-eq, set_out, take_at, length-sets, take-suc, take_all}
 use Rattle.text.specs.Writing.{Put, up_to}
 
 -- what is stored behind the end of a list is lost
-sets-out : (xs l : List ℕ) (i : ℕ) → length l ≤ i → sets l i xs ≡ l
-sets-out [] l i h = refl
-sets-out (x ∷ xs) l i h = rw (set_out l i x h) (sets-out xs l (suc i) (omega arith))
+sets_out : (xs l : List ℕ) (i : ℕ) → length l ≤ i → sets l i xs ≡ l
+sets_out [] l i h = refl
+sets_out (x ∷ xs) l i h = rw (set_out l i x h) (sets_out xs l (suc i) (omega arith))
 
 -- two runs of stores, one behind the other, are one
-pub sets-append : (xs ys l : List ℕ) (i : ℕ) → sets l i (xs ++ ys) ≡ sets (sets l i xs) (i + length xs) ys
-sets-append [] ys l i = rw add-zero
-sets-append (x ∷ xs) ys l i =
+pub sets_append : (xs ys l : List ℕ) (i : ℕ) → sets l i (xs ++ ys) ≡ sets (sets l i xs) (i + length xs) ys
+sets_append [] ys l i = rw add-zero
+sets_append (x ∷ xs) ys l i =
     let e : suc i + length xs ≡ i + suc (length xs) = omega arith in
-    rw (← e) (sets-append xs ys (set l i x) (suc i))
+    rw (← e) (sets_append xs ys (set l i x) (suc i))
 
-pub put-lost : (l : List ℕ) (at v : ℕ) → length l ≤ at → Put l at (v ∷ []) l at
-put-lost l at v h = record { bytes = sym (set_out l at v h); position = omega arith }
+pub put_lost : (l : List ℕ) (at v : ℕ) → length l ≤ at → Put l at (v ∷ []) l at
+put_lost l at v h = record { bytes = sym (set_out l at v h); position = omega arith }
 
-pub put-none : (l : List ℕ) (at : ℕ) → Put l at [] l at
-put-none l at = record { bytes = refl; position = omega arith }
+pub put_none : (l : List ℕ) (at : ℕ) → Put l at [] l at
+put_none l at = record { bytes = refl; position = omega arith }
 
 -- the buffer's length stays
-pub put-length : {l : List ℕ} {at : ℕ} {x m : List ℕ} {next : ℕ} → Put l at x m next → length m ≡ length l
-put-length {l} {at} {x} p = ap length p.bytes ∙ length-sets l at x
+pub put_length : {l : List ℕ} {at : ℕ} {x m : List ℕ} {next : ℕ} → Put l at x m next → length m ≡ length l
+put_length {l} {at} {x} p = ap length p.bytes ∙ length-sets l at x
 
 -- a text that the buffer has room for is put whole
 pub put_whole : {l x m : List ℕ} {next : ℕ} → Put l 0 x m next → length x ≤ length l → take next m ≡ x
@@ -44,7 +44,7 @@ pub put_then : {l : List ℕ} {at : ℕ} {x m : List ℕ} {next : ℕ} {y n : Li
 put_then {l} {at} {x} {m} {next} {y} {n} {last} p q = record { bytes = q.bytes ∙ whole (dec_le (at + length x) (length l)); position = place }
   where
     size : length m ≡ length l
-    size = put-length p
+    size = put_length p
 
     place : last ≡ at + min (length (x ++ y)) (length l - at)
     place = omega (arith, p.position, q.position, size, length-append x y)
@@ -52,16 +52,16 @@ put_then {l} {at} {x} {m} {next} {y} {n} {last} p q = record { bytes = q.bytes �
     whole : Dec (at + length x ≤ length l) → sets m next y ≡ sets l at (x ++ y)
     whole (yes h) =
         let e : next ≡ at + length x = omega (arith, p.position) in
-        rw (e, p.bytes) (sym (sets-append x y l at))
+        rw (e, p.bytes) (sym (sets_append x y l at))
     whole (no h) =
         let a : length m ≤ next = omega (arith, p.position, size) in
         let b : length (sets l at x) ≤ at + length x = omega (arith, length-sets l at x) in
-        sets-out y m next a ∙ p.bytes ∙ sym (sets-append x y l at ∙ sets-out y (sets l at x) (at + length x) b)
+        sets_out y m next a ∙ p.bytes ∙ sym (sets_append x y l at ∙ sets_out y (sets l at x) (at + length x) b)
 
 -- a loop that puts the bytes of a list has put one more, and in the end all
-pub put-more : {l m n : List ℕ} {at next last : ℕ} (xs : List ℕ) (i : ℕ) → i < length xs →
+pub put_more : {l m n : List ℕ} {at next last : ℕ} (xs : List ℕ) (i : ℕ) → i < length xs →
     Put l at (take i xs) m next → Put m next (get_or xs i 0 ∷ []) n last → Put l at (take (i + 1) xs) n last
-put-more xs i h p q = rw (add-one i, take-suc xs i 0 h) (put_then p q)
+put_more xs i h p q = rw (add-one i, take-suc xs i 0 h) (put_then p q)
 
 pub put_all : {l m : List ℕ} {at next : ℕ} (xs : List ℕ) (i : ℕ) → length xs ≤ i → Put l at (take i xs) m next → Put l at xs m next
 put_all xs i h p = rw (take_all i xs h) at p

@@ -21,5 +21,5 @@ abbrev pub labelled : String → ℕ → List ℕ
 labelled label n = ascii label ++ decimal n
 
 -- a number behind a space; a dash where it is the code for none
-unfoldable pub orDash : ℕ → ℕ → List ℕ
-orDash none n = choose (eqb n none) (ascii " -") (labelled " " n)
+unfoldable pub or_dash : ℕ → ℕ → List ℕ
+or_dash none n = choose (eqb n none) (ascii " -") (labelled " " n)

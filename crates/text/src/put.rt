@@ -1,6 +1,6 @@
 // Bytes put into a lent buffer one behind the other, so far as it reaches.
 ghost use Rattle.std.specs.Prelude.{[], ◌∷◌, ◌++◌};
-ghost use Rattle.text.specs.Decimal.{decimal, orDash};
+ghost use Rattle.text.specs.Decimal.{decimal, or_dash};
 ghost use Rattle.text.specs.Writing.{Put};
 
 // Each function here tells the position behind what it has put.
@@ -49,7 +49,7 @@ pub fn put_labelled(out: &mut [u8], at: usize, label: &[u8], number: usize) -> u
 
 // A number behind a space; a dash where it is the code for none.
 pub fn put_or_dash(out: &mut [u8], at: usize, number: usize, none: usize) -> usize
-    ensures { Put out.old at (orDash none number) out.new result }
+    ensures { Put out.old at (or_dash none number) out.new result }
 {
     if number == none {
         put_bytes(out, at, b" -")

@@ -4,46 +4,46 @@ use mathlib.Core.Path.{◌≡◌, refl}
 use Prim.Native.Nat.{ℕ}
 use Rattle.word.specs.declared.Symbol.TheVariants.{Terminal, Nonterminal}
 use Rattle.grammar.specs.Syntax.{Grammar}
-use Rattle.grammar.specs.examples.Cards.{grammarR, grammarM, grammarE}
-use Rattle.semantics.specs.Choices.{tableChoice}
-use Rattle.semantics_examples.proofs.Computing.{tables-compute, descent-computes, calls-compute}
+use Rattle.grammar.specs.examples.Cards.{grammar_r, grammar_m, grammar_e}
+use Rattle.semantics.specs.Choices.{table_choice}
+use Rattle.semantics_examples.proofs.Computing.{tables_compute, descent_computes, calls_compute}
 use Rattle.semantics_examples.proofs.Tables.{others}
 use Rattle.tree.specs.ParseTrees.{Vertex, Node, Leaf, Inner, vertex, leaves}
-use Rattle.tree.specs.Writing.{vertexAt, bodyNodes, conjunctNodes, ruleNodes, descendantsOf, ruleCalls, below, each, visit, treeCalls, tree_of, vertexWord}
-use Rattle.tree.specs.Writing.{treeWords}
+use Rattle.tree.specs.Writing.{vertex_at, body_nodes, conjunct_nodes, rule_nodes, descendants_of, rule_calls, below, each, visit, tree_calls, tree_of, vertex_word}
+use Rattle.tree.specs.Writing.{tree_words}
 
 -- by one token of lookahead
 abbrev words_of : Grammar → List ℕ → List ℕ
-words_of G w = treeWords G (tableChoice G 1 w) w
+words_of G w = tree_words G (table_choice G 1 w) w
 
-abbrev descendsOf : Grammar → List ℕ → Vertex → List (List Node)
-descendsOf G w = descendantsOf G (tableChoice G 1 w) w
+abbrev descends_of : Grammar → List ℕ → Vertex → List (List Node)
+descends_of G w = descendants_of G (table_choice G 1 w) w
 
-unfoldable trees-compute : Unit {0}
-unfolding tables-compute descent-computes calls-compute vertexAt bodyNodes conjunctNodes ruleNodes descendantsOf ruleCalls below each visit
-    treeCalls tree_of vertexWord treeWords leaves
-trees-compute = tt
+unfoldable trees_compute : Unit {0}
+unfolding tables_compute descent_computes calls_compute vertex_at body_nodes conjunct_nodes rule_nodes descendants_of rule_calls below each visit
+    tree_calls tree_of vertex_word tree_words leaves
+trees_compute = tt
 
 -- S → a S | ε on a: rule 0 over the whole, rule 1 over nothing
-R-a : ◌≡◌ {A = List ℕ} (words_of grammarR (0 ∷ [])) (0x80010000 ∷ 0x80010081 ∷ [])
-unfolding trees-compute
-R-a = refl
+R_a : ◌≡◌ {A = List ℕ} (words_of grammar_r (0 ∷ [])) (0x80010000 ∷ 0x80010081 ∷ [])
+unfolding trees_compute
+R_a = refl
 
 -- S, then A over aa with what is below it, then D over bc
-M-aabc : ◌≡◌ {A = List ℕ} (words_of grammarM (0 ∷ 0 ∷ 1 ∷ 2 ∷ []))
+M_aabc : ◌≡◌ {A = List ℕ} (words_of grammar_m (0 ∷ 0 ∷ 1 ∷ 2 ∷ []))
     (0x80040000 ∷ 0x80020001 ∷ 0x80020081 ∷ 0x80020102 ∷ 0x80040107 ∷ 0x80030188 ∷ [])
-unfolding trees-compute
-M-aabc = refl
+unfolding trees_compute
+M_aabc = refl
 
 -- a rejected input has none
-M-abc : ◌≡◌ {A = List ℕ} (words_of grammarM (0 ∷ 1 ∷ 2 ∷ [])) []
-unfolding trees-compute
-M-abc = refl
+M_abc : ◌≡◌ {A = List ℕ} (words_of grammar_m (0 ∷ 1 ∷ 2 ∷ [])) []
+unfolding trees_compute
+M_abc = refl
 
 -- negative conjuncts have no vertices: neither b nor C of A's rule is there
-E-ab : ◌≡◌ {A = List ℕ} (words_of grammarE (0 ∷ 1 ∷ [])) (0x80020000 ∷ 0x80010001 ∷ 0x80010002 ∷ [])
-unfolding trees-compute
-E-ab = refl
+E_ab : ◌≡◌ {A = List ℕ} (words_of grammar_e (0 ∷ 1 ∷ [])) (0x80020000 ∷ 0x80010001 ∷ 0x80010002 ∷ [])
+unfolding trees_compute
+E_ab = refl
 
 -- S → A & A, A → a: the second conjunct meets A again
 abbrev twice : Grammar
@@ -55,24 +55,24 @@ twice = record {
       ∷ record { head = 1; positives = (Terminal 0 ∷ []) ∷ []; negatives = [] } ∷ [];
 }
 
-twice-a : ◌≡◌ {A = List ℕ} (words_of twice (0 ∷ [])) (0x80010000 ∷ 0x80010001 ∷ [])
-unfolding trees-compute
-twice-a = refl
+twice_a : ◌≡◌ {A = List ℕ} (words_of twice (0 ∷ [])) (0x80010000 ∷ 0x80010001 ∷ [])
+unfolding trees_compute
+twice_a = refl
 
 -- and is a descendant for each of them
-twice-descends : ◌≡◌ {A = List (List Node)} (descendsOf twice (0 ∷ []) (vertex 0 0 1))
+twice_descends : ◌≡◌ {A = List (List Node)} (descends_of twice (0 ∷ []) (vertex 0 0 1))
     ((Inner (vertex 1 0 1) ∷ []) ∷ (Inner (vertex 1 0 1) ∷ []) ∷ [])
-unfolding trees-compute
-twice-descends = refl
+unfolding trees_compute
+twice_descends = refl
 
 -- a rule without positive conjuncts: one vertex, and the span's tokens are its leaves
-others-aa : ◌≡◌ {A = List ℕ} (words_of others (0 ∷ 0 ∷ [])) (0x80020000 ∷ [])
-unfolding trees-compute
-others-aa = refl
+others_aa : ◌≡◌ {A = List ℕ} (words_of others (0 ∷ 0 ∷ [])) (0x80020000 ∷ [])
+unfolding trees_compute
+others_aa = refl
 
-others-descends : ◌≡◌ {A = List (List Node)} (descendsOf others (0 ∷ 0 ∷ []) (vertex 0 0 2)) ((Leaf 0 ∷ Leaf 1 ∷ []) ∷ [])
-unfolding trees-compute
-others-descends = refl
+others_descends : ◌≡◌ {A = List (List Node)} (descends_of others (0 ∷ 0 ∷ []) (vertex 0 0 2)) ((Leaf 0 ∷ Leaf 1 ∷ []) ∷ [])
+unfolding trees_compute
+others_descends = refl
 
 -- S → C C, C → ε: one vertex for two symbols, written once
 abbrev doubled : Grammar
@@ -84,11 +84,11 @@ doubled = record {
       ∷ record { head = 1; positives = [] ∷ []; negatives = [] } ∷ [];
 }
 
-doubled-nothing : ◌≡◌ {A = List ℕ} (words_of doubled []) (0x80000000 ∷ 0x80000001 ∷ [])
-unfolding trees-compute
-doubled-nothing = refl
+doubled_nothing : ◌≡◌ {A = List ℕ} (words_of doubled []) (0x80000000 ∷ 0x80000001 ∷ [])
+unfolding trees_compute
+doubled_nothing = refl
 
 -- and is counted as a descendant for each of them
-doubled-descends : ◌≡◌ {A = List (List Node)} (descendsOf doubled [] (vertex 0 0 0)) ((Inner (vertex 1 0 0) ∷ Inner (vertex 1 0 0) ∷ []) ∷ [])
-unfolding trees-compute
-doubled-descends = refl
+doubled_descends : ◌≡◌ {A = List (List Node)} (descends_of doubled [] (vertex 0 0 0)) ((Inner (vertex 1 0 0) ∷ Inner (vertex 1 0 0) ∷ []) ∷ [])
+unfolding trees_compute
+doubled_descends = refl

@@ -14,20 +14,20 @@ use Rattle.base.specs.Quantifiers.{any_of, all_of}
 use Rattle.semantics.specs.Valuations.{Valuation, contains, Solves}
 use Rattle.base.specs.Strings.{look, Over}
 use Rattle.semantics.specs.FirstFollow.{Follow}
-use Rattle.semantics.specs.Choices.{tableChoice}
-use Rattle.semantics.specs.Descent.{End, ends_at, guard, onward, Outcomes, read, run, agrees, select, byChoice, descend}
+use Rattle.semantics.specs.Choices.{table_choice}
+use Rattle.semantics.specs.Descent.{End, ends_at, guard, onward, Outcomes, read, run, agrees, select, by_choice, descend}
 use Rattle.semantics.specs.Predictive.{Predictive}
-use Rattle.semantics.specs.contracts.Theorems.{LocalVerdict}
+use Rattle.semantics.specs.inner.Theorems.{LocalVerdict}
 use Rattle.base.proofs.Booleans.{and_l, and_r}
-use Rattle.base.proofs.Quantified.{all-elim, any-make}
-use Rattle.semantics.proofs.descent.Outcomes.{ends-end, end-ends, onward-elim, guard-elim, obey-elim, select-elim, conclude-elim}
-use Rattle.semantics.proofs.descent.Ends.{run-forward, selected, descend-forward}
+use Rattle.base.proofs.Quantified.{all_elim, any_make}
+use Rattle.semantics.proofs.descent.Outcomes.{ends_end, end_ends, onward_elim, guard_elim, obey_elim, select_elim, conclude_elim}
+use Rattle.semantics.proofs.descent.Ends.{run_forward, selected, descend_forward}
 use Rattle.semantics.proofs.descent.BodyVerdict.{below_rest}
 use Rattle.semantics.proofs.Theorems.{theorems}
 
 module _ (G : Grammar) (k : ℕ) (w : List ℕ) where
   abbrev pub outcomes : Outcomes
-  outcomes = descend G (tableChoice G k w) w
+  outcomes = descend G (table_choice G k w) w
 
   -- a call of A at i ends at m, where A can be followed
   pub record Found (A i m : ℕ) : Type 0 where
@@ -43,31 +43,31 @@ module _ (G : Grammar) (k : ℕ) (w : List ℕ) where
   Reads j (Terminal a ∷ b) i = (i < length w) × (get_or w i 0 ≡ a) × Reads j b (suc i)
   Reads j (Nonterminal A ∷ b) i = (m : ℕ) × Found A i m × Reads j b m
 
-  pub reads-forward : (b : Body) (i j : ℕ) → Reads j b i → i ≤ j
-  reads-forward [] i j h = omega (arith, h)
-  reads-forward (Terminal a ∷ b) i j h = omega (arith, reads-forward b (suc i) j h.2)
-  reads-forward (Nonterminal A ∷ b) i j h = omega (arith, h.1.onward, reads-forward b h.0 j h.2)
+  pub reads_forward : (b : Body) (i j : ℕ) → Reads j b i → i ≤ j
+  reads_forward [] i j h = omega (arith, h)
+  reads_forward (Terminal a ∷ b) i j h = omega (arith, reads_forward b (suc i) j h.2)
+  reads_forward (Nonterminal A ∷ b) i j h = omega (arith, h.1.onward, reads_forward b h.0 j h.2)
 
   end_same : (i j : ℕ) → End i ≡ End j → i ≡ j
-  end_same i j e = eqb→eq i j (end-ends (End i) j e)
+  end_same i j e = eqb→eq i j (end_ends (End i) j e)
 
   module _ (p : Predictive G k) (over : Over G.terminals w) (v : Valuation) (solves : Solves G w v) where
     verdict : LocalVerdict G k w v
-    verdict = theorems.local-verdict G k p w over v solves
+    verdict = theorems.local_verdict G k p w over v solves
 
     module _ (r : Rule) (listed : Memᴰ r G.rules) (j : ℕ) (jw : j ≤ length w) (y : Follow G k r.head (look k w j)) where
       reads : (front rest : Body) → Memᴰ (front ++ rest) (bodies r) → (i : ℕ) → i ≤ j → run outcomes w rest i ≡ End j → Reads j rest i
       unfolding run read
       reads front [] held i ij e = end_same i j e
       reads front (Terminal a ∷ b) held i ij e =
-          let s = onward-elim (guard (ltb i (length w) && eqb (get_or w i 0) a) (suc i)) (λ m. run outcomes w b m) j (end-ends _ j e) in
-          let g = guard-elim (ltb i (length w) && eqb (get_or w i 0) a) (suc i) s.0 s.1 in
+          let s = onward_elim (guard (ltb i (length w) && eqb (get_or w i 0) a) (suc i)) (λ m. run outcomes w b m) j (end_ends _ j e) in
+          let g = guard_elim (ltb i (length w) && eqb (get_or w i 0) a) (suc i) s.0 s.1 in
           let l : i < length w = ltb→lt i (length w) (and_l (ltb i (length w)) _ g.0) in
           let q : get_or w i 0 ≡ a = eqb→eq (get_or w i 0) a (and_r (ltb i (length w)) (eqb (get_or w i 0) a) g.0) in
           let d : suc i ≡ s.0 = g.1 in
           let u : T (ends_at (run outcomes w b (suc i)) j) = rw d s.2 in
-          let f = run-forward w outcomes (descend-forward G (tableChoice G k w) w (theorems.own-rules G k w)) b (suc i) j l u in
-          (l, q, reads (front ++ (Terminal a ∷ [])) b (rw (append_assoc front (Terminal a ∷ []) b) held) (suc i) f.0 (ends-end _ j u))
+          let f = run_forward w outcomes (descend_forward G (table_choice G k w) w (theorems.own_rules G k w)) b (suc i) j l u in
+          (l, q, reads (front ++ (Terminal a ∷ [])) b (rw (append_assoc front (Terminal a ∷ []) b) held) (suc i) f.0 (ends_end _ j u))
       reads front (Nonterminal A ∷ b) held i ij e =
           let q = verdict.piece r listed front A b held i j ij jw y e in
           let n = below_rest G.nonterminals front (Nonterminal A ∷ b) (p.scoped.nonterminals r listed (front ++ (Nonterminal A ∷ b)) held) in
@@ -82,7 +82,7 @@ module _ (G : Grammar) (k : ℕ) (w : List ℕ) where
     pub record Chosen (A i j : ℕ) : Type 0 where
       pub rule : Rule
       pub number : ℕ
-      pub looked : tableChoice G k w A i ≡ some number
+      pub looked : table_choice G k w A i ≡ some number
       pub numbered : get_elem? G.rules number ≡ some rule
       pub listed : Memᴰ rule G.rules
       pub heads : rule.head ≡ A
@@ -92,20 +92,20 @@ module _ (G : Grammar) (k : ℕ) (w : List ℕ) where
       pub every : rule.positives ≡ [] → length w ≡ j
 
     pub chosen : (A i j : ℕ) → Found A i j → Chosen A i j
-    unfolding byChoice agrees
+    unfolding by_choice agrees
     chosen A i j f =
         let a : i ≤ length w = omega (arith, f.onward, f.within) in
-        let e : byChoice G (tableChoice G k w) w outcomes A i ≡ End j =
-        sym ((theorems.descent-ends G p.scoped p.unrecursive (tableChoice G k w) (theorems.own-rules G k w) w).unfolds A i f.named a) ∙ f.ends in
-        let o = obey-elim (λ b. run outcomes w b i) (length w) (select G (tableChoice G k w A i)) j (end-ends _ j e) in
+        let e : by_choice G (table_choice G k w) w outcomes A i ≡ End j =
+        sym ((theorems.descent_ends G p.scoped p.unrecursive (table_choice G k w) (theorems.own_rules G k w) w).unfolds A i f.named a) ∙ f.ends in
+        let o = obey_elim (λ b. run outcomes w b i) (length w) (select G (table_choice G k w A i)) j (end_ends _ j e) in
         let r : Rule = o.0 in
-        let s = select-elim G (tableChoice G k w A i) r o.1 in
-        let own = selected G (tableChoice G k w) w (theorems.own-rules G k w) A i r o.1 in
-        let g = conclude-elim (λ b. run outcomes w b i) (length w) r.positives r.negatives j o.2 in
+        let s = select_elim G (table_choice G k w A i) r o.1 in
+        let own = selected G (table_choice G k w) w (theorems.own_rules G k w) A i r o.1 in
+        let g = conclude_elim (λ b. run outcomes w b i) (length w) r.positives r.negatives j o.2 in
         let ps = and_l (all_of (λ b. ends_at (run outcomes w b i) j) r.positives) _ g.1 in
         let ns = and_r (all_of (λ b. ends_at (run outcomes w b i) j) r.positives) (not (any_of (λ b. ends_at (run outcomes w b i) j) r.negatives)) g.1 in
         let y : Follow G k r.head (look k w j) = rw own.1 f.follow in
-        let positive : (b : Body) → Memᴰ b r.positives → run outcomes w b i ≡ End j = λ b m. ends-end _ j (all-elim _ r.positives ps b m) in
+        let positive : (b : Body) → Memᴰ b r.positives → run outcomes w b i ≡ End j = λ b m. ends_end _ j (all_elim _ r.positives ps b m) in
         record {
           rule = r;
           number = s.0;
@@ -126,5 +126,5 @@ module _ (G : Grammar) (k : ℕ) (w : List ℕ) where
             go : (x : Bool) → contains v w b i j ≡ x → x ≡ false
             go true e =
                 let d = (verdict.rest r l [] b (Memᴰ.append_right r.positives m) i j f.onward f.within y).1 e in
-                absurd (T_not (any_of (λ b. ends_at (run outcomes w b i) j) r.negatives) ns (any-make _ r.negatives b m (end-ends _ j d)))
+                absurd (T_not (any_of (λ b. ends_at (run outcomes w b i) j) r.negatives) ns (any_make _ r.negatives b m (end_ends _ j d)))
             go false e = refl

@@ -11,20 +11,20 @@ use Rattle.base.specs.Quantifiers.{any_of}
 use Rattle.base.specs.Choice.{choose}
 use Rattle.base.specs.FiniteSets.{member, Distinct}
 use Rattle.semantics.specs.ComesTo.{Call}
-use Rattle.semantics.specs.Calls.{sameCall}
-use Rattle.base.proofs.Booleans.{true-T, T-subst}
-use Rattle.base.proofs.FiniteSets.{member-mem, mem-member}
-use Rattle.semantics.proofs.descent.Range.{calls-equality}
+use Rattle.semantics.specs.Calls.{same_call}
+use Rattle.base.proofs.Booleans.{true_T, T_subst}
+use Rattle.base.proofs.FiniteSets.{member_mem, mem_member}
+use Rattle.semantics.proofs.descent.Range.{calls_equality}
 use Rattle.tree.specs.Writing.{each, visit}
 
-pub distinct-last : (l : List Call) (x : Call) → Distinct l → (Memᴰ x l → ⊥) → Distinct (l ++ (x ∷ []))
-distinct-last [] x d h = (λ m. Memᴰ.not-nil m, tt)
-distinct-last (y ∷ l) x d h = (
+pub distinct_last : (l : List Call) (x : Call) → Distinct l → (Memᴰ x l → ⊥) → Distinct (l ++ (x ∷ []))
+distinct_last [] x d h = (λ m. Memᴰ.not-nil m, tt)
+distinct_last (y ∷ l) x d h = (
   λ m. elim (Memᴰ.append_cases l m) [
     | inl n ↦ d.0 n
     | inr n ↦ h (Memᴰ.head (sym (Memᴰ.eq_of_singleton n)))
   ],
-  distinct-last l x d.1 (λ m. h (Memᴰ.tail m)),
+  distinct_last l x d.1 (λ m. h (Memᴰ.tail m)),
 )
 
 module _ (under : Call → List Call) (P : Call → Type 0) (m : Call → ℕ)
@@ -43,19 +43,19 @@ module _ (under : Call → List Call) (P : Call → Type 0) (m : Call → ℕ)
   abbrev pub Visits : ℕ → Type 0
   Visits n = (x : Call) (l : List Call) → P x → m x < n → Visited (x ∷ []) l (visit under n x l)
 
-  each-visited : (n : ℕ) → Visits n → (xs l : List Call) → ((x : Call) → Memᴰ x xs → P x × (m x < n)) → Visited xs l (each (visit under n) xs l)
+  each_visited : (n : ℕ) → Visits n → (xs l : List Call) → ((x : Call) → Memᴰ x xs → P x × (m x < n)) → Visited xs l (each (visit under n) xs l)
   unfolding each
-  each-visited n h [] l p = record {
+  each_visited n h [] l p = record {
     extra = [];
     after = sym (append-nil l);
     met = λ x k. absurd (Memᴰ.not-nil k);
     distinct = λ d. d;
     fresh = λ y k. inl k;
   }
-  each-visited n h (x ∷ xs) l p =
+  each_visited n h (x ∷ xs) l p =
       let q = p x (Memᴰ.head refl) in
       let a = h x l q.0 q.1 in
-      let b = each-visited n h xs (visit under n x l) (λ y k. p y (Memᴰ.tail k)) in
+      let b = each_visited n h xs (visit under n x l) (λ y k. p y (Memᴰ.tail k)) in
       record {
         extra = a.extra ++ b.extra;
         after = b.after ∙ ap (λ s. s ++ b.extra) a.after ∙ append_assoc l a.extra b.extra;
@@ -73,18 +73,18 @@ module _ (under : Call → List Call) (P : Call → Type 0) (m : Call → ℕ)
         ];
       }
 
-  pub visit-visited : (n : ℕ) → Visits n
+  pub visit_visited : (n : ℕ) → Visits n
   unfolding visit
-  visit-visited zero x l p h = absurd (omega arith)
-  visit-visited (suc n) x l p h = go (member sameCall l x) refl (each-visited n (visit-visited n) (under x) (l ++ (x ∷ []))
+  visit_visited zero x l p h = absurd (omega arith)
+  visit_visited (suc n) x l p h = go (member same_call l x) refl (each_visited n (visit_visited n) (under x) (l ++ (x ∷ []))
       (λ y k. let f = falls x p y k in (f.0, omega (arith, f.1))))
     where
-      go : (b : Bool) → member sameCall l x ≡ b → Visited (under x) (l ++ (x ∷ [])) (each (visit under n) (under x) (l ++ (x ∷ [])))
+      go : (b : Bool) → member same_call l x ≡ b → Visited (under x) (l ++ (x ∷ [])) (each (visit under n) (under x) (l ++ (x ∷ [])))
           → Visited (x ∷ []) l (choose b l (each (visit under n) (under x) (l ++ (x ∷ []))))
       go true e v = record {
         extra = [];
         after = sym (append-nil l);
-        met = λ y k. Memᴰ.cast (Memᴰ.eq_of_singleton k) (member-mem sameCall calls-equality l x (true-T _ e));
+        met = λ y k. Memᴰ.cast (Memᴰ.eq_of_singleton k) (member_mem same_call calls_equality l x (true_T _ e));
         distinct = λ d. d;
         fresh = λ y k. inl k;
       }
@@ -92,7 +92,7 @@ module _ (under : Call → List Call) (P : Call → Type 0) (m : Call → ℕ)
         extra = (x ∷ []) ++ v.extra;
         after = v.after ∙ append_assoc l (x ∷ []) v.extra;
         met = λ y k. kept v y (Memᴰ.append_right l k);
-        distinct = λ d. v.distinct (distinct-last l x d (λ k. T-subst e (mem-member sameCall calls-equality l x k)));
+        distinct = λ d. v.distinct (distinct_last l x d (λ k. T_subst e (mem_member same_call calls_equality l x k)));
         fresh = λ y k. elim (v.fresh y k) [
           | inl k' ↦ elim (Memᴰ.append_cases l k') [
             | inl k'' ↦ inl k''
@@ -103,9 +103,9 @@ module _ (under : Call → List Call) (P : Call → Type 0) (m : Call → ℕ)
       }
 
   -- what is visited first is written first
-  pub visit-first : (n : ℕ) (x : Call) → P x → m x < n → (others : List Call) × (visit under n x [] ≡ x ∷ others)
+  pub visit_first : (n : ℕ) (x : Call) → P x → m x < n → (others : List Call) × (visit under n x [] ≡ x ∷ others)
   unfolding visit member any_of
-  visit-first zero x p h = absurd (omega arith)
-  visit-first (suc n) x p h =
-      let v = each-visited n (visit-visited n) (under x) (x ∷ []) (λ y k. let f = falls x p y k in (f.0, omega (arith, f.1))) in
+  visit_first zero x p h = absurd (omega arith)
+  visit_first (suc n) x p h =
+      let v = each_visited n (visit_visited n) (under x) (x ∷ []) (λ y k. let f = falls x p y k in (f.0, omega (arith, f.1))) in
       (v.extra, v.after)

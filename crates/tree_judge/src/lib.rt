@@ -1,6 +1,6 @@
 // Judging before a tree is written: lent memory is to be long enough for the tree, too.
 ghost use Rattle.event.specs.Events.{input_of};
-ghost use Rattle.tree_writer_promises.specs.contracts.Room.{JudgesWithRoom};
+ghost use Rattle.tree_writer_promises.specs.inner.Room.{JudgesWithRoom};
 
 use answer::{Answer, Error};
 use grammar::limits::{MEMO_ENTRIES, TABLE_WORDS};

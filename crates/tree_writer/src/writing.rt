@@ -1,6 +1,6 @@
 // Writing the parse tree of an accepted input into lent words: root first, each vertex once.
 ghost use Rattle.event.specs.Events.{input_of};
-ghost use Rattle.tree_writer_promises.specs.contracts.Writer.{VertexRequires, VertexEnsures, TreeGiven, TreeDone};
+ghost use Rattle.tree_writer_promises.specs.inner.Writer.{VertexRequires, VertexEnsures, TreeGiven, TreeDone};
 
 use grammar::limits::{MEMO_ENTRIES, PLACES, RULES};
 use rule_starts::rule_starts;

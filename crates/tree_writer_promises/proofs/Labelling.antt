@@ -11,132 +11,132 @@ use lib.ListN.{length, get_or, set, replicate, length-set, length-replicate}
 use lib.Seq.{get_or-set_same, get_or-set_other}
 use borrow.Author.Tests.{lt-ltb, le-ltb}
 use Rattle.base.specs.Choice.{choose}
-use Rattle.base.proofs.Lists.{listed-long, listed_at, getD-zeros}
-use Rattle.grammar.specs.Limits.{maxNonterminals, maxTokens, maxPlaces, maxMemoEntries}
+use Rattle.base.proofs.Lists.{listed_long, listed_at, get_d_zeros}
+use Rattle.grammar.specs.Limits.{max_nonterminals, max_tokens, max_places, max_memo_entries}
 use Rattle.grammar.specs.declared.reading.Sizes.{Sizes}
 use Rattle.grammar.specs.declared.reading.Reading.{Reading}
 use Rattle.grammar.specs.declared.reading.Reading.TheVariants.{Read, Faulty}
-use Rattle.grammar.specs.contracts.reading.Reading.{the_type}
+use Rattle.grammar.specs.inner.reading.Reading.{the_type}
 use Rattle.event.specs.Events.{input_of}
-use Rattle.event.proofs.Inputs.{input-length}
+use Rattle.event.proofs.Inputs.{input_length}
 use Rattle.lookahead.specs.declared.Lookahead.TheVariants.{One}
-use Rattle.columns.specs.contracts.Columns.{columnAt}
+use Rattle.columns.specs.inner.Columns.{column_at}
 use Rattle.descent_arrays.proofs.Listing.{listed_by}
 use Rattle.tree.specs.ParseTrees.{vertex}
-use Rattle.tree.specs.Writing.{vertexWord}
-use Rattle.tree_writer_promises.specs.contracts.Labels.{labelRule, labelWord, label_of, label_at, labelsOf, labelsRead}
-use Rattle.tree_writer_promises.specs.contracts.Labels.{LabelsGiven, LabelledBelow, Labelled}
+use Rattle.tree.specs.Writing.{vertex_word}
+use Rattle.tree_writer_promises.specs.inner.Labels.{label_rule, label_word, label_of, label_at, labels_of, labels_read}
+use Rattle.tree_writer_promises.specs.inner.Labels.{LabelsGiven, LabelledBelow, Labelled}
 
 -- the word for a call
 module _ (z : Sizes) (events table memo : List ℕ) (A i : ℕ) where
-  pub label-long : maxTokens < length events → 0 ≡ label_of z (input_of events) table memo A i
-  label-long h = rw (input-length events, lt-ltb maxTokens (length events) h)
+  pub label_long : max_tokens < length events → 0 ≡ label_of z (input_of events) table memo A i
+  label_long h = rw (input_length events, lt-ltb max_tokens (length events) h)
 
-  pub label-short : {column rule end r : ℕ} → length events ≤ maxTokens → column ≡ columnAt One z.terminals (input_of events) i
+  pub label_short : {column rule end r : ℕ} → length events ≤ max_tokens → column ≡ column_at One z.terminals (input_of events) i
       → rule ≡ get_or table (2 * z.nonterminals + A * (z.terminals + 1) + column) 0
       → end ≡ get_or memo (A * (length events + 1) + i) 0
-      → r ≡ vertexWord (vertex (labelRule rule) i (end % 512))
+      → r ≡ vertex_word (vertex (label_rule rule) i (end % 512))
       → r ≡ label_of z (input_of events) table memo A i
-  unfolding labelWord
-  label-short h c d m e = e ∙ rw (d, m, c, input-length events, le-ltb maxTokens (length events) h)
+  unfolding label_word
+  label_short h c d m e = e ∙ rw (d, m, c, input_length events, le-ltb max_tokens (length events) h)
 
 module _ (z : Sizes) (input table memo : List ℕ) where
   -- an index is that of one nonterminal and place
-  label-at : (B k : ℕ) → B < z.nonterminals → k ≤ length input → k ≤ maxTokens
-      → label_at z input table memo (B * maxPlaces + k) ≡ label_of z input table memo B k
+  label_at_lem : (B k : ℕ) → B < z.nonterminals → k ≤ length input → k ≤ max_tokens
+      → label_at z input table memo (B * max_places + k) ≡ label_of z input table memo B k
   unfolding label_at
-  label-at B k b h m =
-      let q : (B * maxPlaces + k) / maxPlaces ≡ B = omega arith in
-      let r : (B * maxPlaces + k) % maxPlaces ≡ k = omega arith in
+  label_at_lem B k b h m =
+      let q : (B * max_places + k) / max_places ≡ B = omega arith in
+      let r : (B * max_places + k) % max_places ≡ k = omega arith in
       rw (q, r, lt-ltb B z.nonterminals b, le-ltb (length input) k h)
 
   -- past the end of the input a row has none
-  label-past : (x : ℕ) → length input < x % maxPlaces → label_at z input table memo x ≡ 0
+  label_past : (x : ℕ) → length input < x % max_places → label_at z input table memo x ≡ 0
   unfolding label_at
-  label-past x h = rw (lt-ltb (length input) (x % maxPlaces) h) (either-zero (ltb (x / maxPlaces) z.nonterminals))
+  label_past x h = rw (lt-ltb (length input) (x % max_places) h) (either_zero (ltb (x / max_places) z.nonterminals))
     where
-      either-zero : (b : Bool) → ◌≡◌ {A = ℕ} (choose b 0 0) 0
-      either-zero true = refl
-      either-zero false = refl
+      either_zero : (b : Bool) → ◌≡◌ {A = ℕ} (choose b 0 0) 0
+      either_zero true = refl
+      either_zero false = refl
 
   -- nor has a row past the last nonterminal
-  label-beyond : (x : ℕ) → z.nonterminals ≤ x / maxPlaces → label_at z input table memo x ≡ 0
+  label_beyond : (x : ℕ) → z.nonterminals ≤ x / max_places → label_at z input table memo x ≡ 0
   unfolding label_at
-  label-beyond x h = rw (le-ltb (x / maxPlaces) z.nonterminals h)
+  label_beyond x h = rw (le-ltb (x / max_places) z.nonterminals h)
 
   -- within the limits each call has its word
-  pub labels_right : {labels : List ℕ} → LabelsGiven z input → labels ≡ labelsOf z input table memo → Labelled z input table memo labels
-  unfolding labelsOf
+  pub labels_right : {labels : List ℕ} → LabelsGiven z input → labels ≡ labels_of z input table memo → Labelled z input table memo labels
+  unfolding labels_of
   labels_right g e = record {
-    long = ap length e ∙ listed-long maxMemoEntries (label_at z input table memo);
+    long = ap length e ∙ listed_long max_memo_entries (label_at z input table memo);
     word = λ A i a h.
-        ap (λ l. get_or l (A * maxPlaces + i) 0) e
-        ∙ listed_at maxMemoEntries (label_at z input table memo) (A * maxPlaces + i) (omega (arith, g.fewNonterminals, g.short))
-        ∙ label-at A i a h (omega (arith, g.short)) ∙ rw (le-ltb maxTokens (length input) g.short);
+        ap (λ l. get_or l (A * max_places + i) 0) e
+        ∙ listed_at max_memo_entries (label_at z input table memo) (A * max_places + i) (omega (arith, g.few_nonterminals, g.short))
+        ∙ label_at_lem A i a h (omega (arith, g.short)) ∙ rw (le-ltb max_tokens (length input) g.short);
   }
 
 module _ {z : Sizes} (events : List ℕ) {table memo : List ℕ} where
   -- one label after the other
-  pub labels-start : LabelledBelow z (input_of events) table memo 0 (replicate maxMemoEntries 0)
-  labels-start = record {
-    long = length-replicate {A = ℕ} maxMemoEntries 0;
+  pub labels_start : LabelledBelow z (input_of events) table memo 0 (replicate max_memo_entries 0)
+  labels_start = record {
+    long = length-replicate {A = ℕ} max_memo_entries 0;
     made = λ x h. absurd (omega arith);
-    ahead = λ x h. getD-zeros maxMemoEntries x;
+    ahead = λ x h. get_d_zeros max_memo_entries x;
   }
 
   module _ (B k : ℕ) {labels : List ℕ} where
-    pub labels-more : {r : ℕ} → B < min z.nonterminals maxNonterminals → k ≤ min (length events) maxTokens
-        → LabelledBelow z (input_of events) table memo (B * maxPlaces + k) labels
+    pub labels_more : {r : ℕ} → B < min z.nonterminals max_nonterminals → k ≤ min (length events) max_tokens
+        → LabelledBelow z (input_of events) table memo (B * max_places + k) labels
         → r ≡ label_of z (input_of events) table memo B k
-        → LabelledBelow z (input_of events) table memo (B * maxPlaces + k + 1) (set labels (B * maxPlaces + k) r)
-    labels-more {r} b l below e = record {
-      long = length-set labels (B * maxPlaces + k) r ∙ below.long;
-      made = λ x h. go x h (ℕ_discrete x (B * maxPlaces + k));
-      ahead = λ x h. get_or-set_other labels (B * maxPlaces + k) x r 0 (λ q. absurd (omega arith)) ∙ below.ahead x (omega arith);
+        → LabelledBelow z (input_of events) table memo (B * max_places + k + 1) (set labels (B * max_places + k) r)
+    labels_more {r} b l below e = record {
+      long = length-set labels (B * max_places + k) r ∙ below.long;
+      made = λ x h. go x h (ℕ_discrete x (B * max_places + k));
+      ahead = λ x h. get_or-set_other labels (B * max_places + k) x r 0 (λ q. absurd (omega arith)) ∙ below.ahead x (omega arith);
     }
       where
-        go : (x : ℕ) → x < B * maxPlaces + k + 1 → Dec (x ≡ B * maxPlaces + k)
-            → get_or (set labels (B * maxPlaces + k) r) x 0 ≡ label_at z (input_of events) table memo x
+        go : (x : ℕ) → x < B * max_places + k + 1 → Dec (x ≡ B * max_places + k)
+            → get_or (set labels (B * max_places + k) r) x 0 ≡ label_at z (input_of events) table memo x
         go x h (yes q) =
-            let at = label-at z (input_of events) table memo B k (omega arith) (omega (arith, input-length events)) (omega arith) in
-            rw q (get_or-set_same labels (B * maxPlaces + k) r 0 (omega (arith, below.long)) ∙ e ∙ sym at)
-        go x h (no q) = get_or-set_other labels (B * maxPlaces + k) x r 0 q ∙ below.made x (omega (arith, q))
+            let at = label_at_lem z (input_of events) table memo B k (omega arith) (omega (arith, input_length events)) (omega arith) in
+            rw q (get_or-set_same labels (B * max_places + k) r 0 (omega (arith, below.long)) ∙ e ∙ sym at)
+        go x h (no q) = get_or-set_other labels (B * max_places + k) x r 0 q ∙ below.made x (omega (arith, q))
 
     -- the next place, and behind the last one the next row
-    pub labels-place : LabelledBelow z (input_of events) table memo (B * maxPlaces + k + 1) labels
-        → LabelledBelow z (input_of events) table memo (B * maxPlaces + (k + 1)) labels
-    labels-place below = record { long = below.long; made = λ x h. below.made x (omega arith); ahead = λ x h. below.ahead x (omega arith) }
+    pub labels_place : LabelledBelow z (input_of events) table memo (B * max_places + k + 1) labels
+        → LabelledBelow z (input_of events) table memo (B * max_places + (k + 1)) labels
+    labels_place below = record { long = below.long; made = λ x h. below.made x (omega arith); ahead = λ x h. below.ahead x (omega arith) }
 
-    pub labels-row : min (length events) maxTokens ≤ k → k ≤ maxTokens → LabelledBelow z (input_of events) table memo (B * maxPlaces + k + 1) labels
-        → LabelledBelow z (input_of events) table memo ((B + 1) * maxPlaces + 0) labels
-    labels-row h m below = record {
+    pub labels_row : min (length events) max_tokens ≤ k → k ≤ max_tokens → LabelledBelow z (input_of events) table memo (B * max_places + k + 1) labels
+        → LabelledBelow z (input_of events) table memo ((B + 1) * max_places + 0) labels
+    labels_row h m below = record {
       long = below.long;
-      made = λ x l. go x l (dec_lt x (B * maxPlaces + k + 1));
+      made = λ x l. go x l (dec_lt x (B * max_places + k + 1));
       ahead = λ x l. below.ahead x (omega arith);
     }
       where
-        go : (x : ℕ) → x < (B + 1) * maxPlaces + 0 → Dec (x < B * maxPlaces + k + 1) → get_or labels x 0 ≡ label_at z (input_of events) table memo x
+        go : (x : ℕ) → x < (B + 1) * max_places + 0 → Dec (x < B * max_places + k + 1) → get_or labels x 0 ≡ label_at z (input_of events) table memo x
         go x l (yes q) = below.made x q
-        go x l (no q) = below.ahead x (omega arith) ∙ sym (label-past z (input_of events) table memo x (omega (arith, input-length events)))
+        go x l (no q) = below.ahead x (omega arith) ∙ sym (label_past z (input_of events) table memo x (omega (arith, input_length events)))
 
-    pub labels-all : min z.nonterminals maxNonterminals ≤ B → LabelledBelow z (input_of events) table memo (B * maxPlaces + k) labels
-        → labels ≡ labelsOf z (input_of events) table memo
-    unfolding labelsOf
-    labels-all h below =
-        listed_by maxMemoEntries (label_at z (input_of events) table memo) labels below.long (λ x l. go x l (dec_lt x (B * maxPlaces + k)))
+    pub labels_all : min z.nonterminals max_nonterminals ≤ B → LabelledBelow z (input_of events) table memo (B * max_places + k) labels
+        → labels ≡ labels_of z (input_of events) table memo
+    unfolding labels_of
+    labels_all h below =
+        listed_by max_memo_entries (label_at z (input_of events) table memo) labels below.long (λ x l. go x l (dec_lt x (B * max_places + k)))
       where
-        go : (x : ℕ) → x < maxMemoEntries → Dec (x < B * maxPlaces + k) → get_or labels x 0 ≡ label_at z (input_of events) table memo x
+        go : (x : ℕ) → x < max_memo_entries → Dec (x < B * max_places + k) → get_or labels x 0 ≡ label_at z (input_of events) table memo x
         go x l (yes q) = below.made x q
-        go x l (no q) = below.ahead x (omega arith) ∙ sym (label-beyond z (input_of events) table memo x (omega arith))
+        go x l (no q) = below.ahead x (omega arith) ∙ sym (label_beyond z (input_of events) table memo x (omega arith))
 
 -- by what is read; words that cannot be read have none
 module _ (input table memo : List ℕ) {o o' : Reading} (e : o ≡ o') where
-  pub labels-read : {z : Sizes} {labels : List ℕ} → o ≡ Read z → labels ≡ labelsOf z input table memo → labels ≡ labelsRead o' input table memo
-  labels-read q l = l ∙ ap (λ x. labelsRead x input table memo) (sym q ∙ e)
+  pub labels_read_lem : {z : Sizes} {labels : List ℕ} → o ≡ Read z → labels ≡ labels_of z input table memo → labels ≡ labels_read o' input table memo
+  labels_read_lem q l = l ∙ ap (λ x. labels_read x input table memo) (sym q ∙ e)
 
-  pub labels-faulty : tag_of the_type o ≡ 1 → replicate maxMemoEntries 0 ≡ labelsRead o' input table memo
-  labels-faulty t = go o t ∙ ap (λ x. labelsRead x input table memo) e
+  pub labels_faulty : tag_of the_type o ≡ 1 → replicate max_memo_entries 0 ≡ labels_read o' input table memo
+  labels_faulty t = go o t ∙ ap (λ x. labels_read x input table memo) e
     where
-      go : (x : Reading) → tag_of the_type x ≡ 1 → replicate maxMemoEntries 0 ≡ labelsRead x input table memo
+      go : (x : Reading) → tag_of the_type x ≡ 1 → replicate max_memo_entries 0 ≡ labels_read x input table memo
       go (Read z) t = absurd (omega arith)
       go (Faulty f) t = refl

@@ -1,2 +1,2 @@
 pub mod Properties
-pub mod contracts
+pub mod inner

@@ -6,51 +6,51 @@ use native.Mathlib.Omega.{arith}
 use lib.ListN.{length}
 use Rattle.answer.specs.declared.Answer.{Answer}
 use Rattle.usage.specs.declared.Usage.{Usage}
-use Rattle.usage.specs.Counters.{saturated, usageOf, unused, Measure, call_of, refusalOf, acceptanceOf, calledOf, eachCounter}
-use Rattle.usage.specs.Histories.{countedAnswer, recordOf, total_of, summed, spent, UsageInRange, SumsCut}
+use Rattle.usage.specs.Counters.{saturated, usage_of, unused, Measure, call_of, refusal_of, acceptance_of, called_of, each_counter}
+use Rattle.usage.specs.Histories.{counted_answer, record_of, total_of, summed, spent, UsageInRange, SumsCut}
 
-same-usage : {c c' r r' a a' d d' : ℕ} → c ≡ c' → r ≡ r' → a ≡ a' → d ≡ d' → usageOf c r a d ≡ usageOf c' r' a' d'
-same-usage e f g h = cc
+same_usage : {c c' r r' a a' d d' : ℕ} → c ≡ c' → r ≡ r' → a ≡ a' → d ≡ d' → usage_of c r a d ≡ usage_of c' r' a' d'
+same_usage e f g h = cc
 
 -- what is so for any measure and number is so of each counter
-each_same : (f g : Measure → ℕ → ℕ) → ((m : Measure) (n : ℕ) → f m n ≡ g m n) → (u : Usage) → eachCounter f u ≡ eachCounter g u
-unfolding eachCounter
-each_same f g h u = same-usage (h call_of u.calls) (h refusalOf u.refusals) (h acceptanceOf u.acceptances) (h calledOf u.called)
+each_same : (f g : Measure → ℕ → ℕ) → ((m : Measure) (n : ℕ) → f m n ≡ g m n) → (u : Usage) → each_counter f u ≡ each_counter g u
+unfolding each_counter
+each_same f g h u = same_usage (h call_of u.calls) (h refusal_of u.refusals) (h acceptance_of u.acceptances) (h called_of u.called)
 
 -- from the second answer on a record is one that was cut
-counted-summed : (u : Usage) (x : Answer) (l : List Answer) → summed (countedAnswer u x) l ≡ summed u (x ∷ l)
-unfolding summed countedAnswer total_of eachCounter
-counted-summed u x l = each_same (λ m n. saturated (saturated (n + m x) + total_of m l)) (λ m n. saturated (n + (m x + total_of m l))) (λ m n. omega arith) u
+counted_summed : (u : Usage) (x : Answer) (l : List Answer) → summed (counted_answer u x) l ≡ summed u (x ∷ l)
+unfolding summed counted_answer total_of each_counter
+counted_summed u x l = each_same (λ m n. saturated (saturated (n + m x) + total_of m l)) (λ m n. saturated (n + (m x + total_of m l))) (λ m n. omega arith) u
 
-pub once-counted : (u : Usage) (x : Answer) (l : List Answer) → recordOf u (x ∷ l) ≡ summed u (x ∷ l)
-unfolding recordOf summed countedAnswer total_of
-once-counted u x [] = each_same (λ m n. saturated (n + m x)) (λ m n. saturated (n + (m x + 0))) (λ m n. omega arith) u
-once-counted u x (y ∷ l) = once-counted (countedAnswer u x) y l ∙ counted-summed u x (y ∷ l)
+pub once_counted : (u : Usage) (x : Answer) (l : List Answer) → record_of u (x ∷ l) ≡ summed u (x ∷ l)
+unfolding record_of summed counted_answer total_of
+once_counted u x [] = each_same (λ m n. saturated (n + m x)) (λ m n. saturated (n + (m x + 0))) (λ m n. omega arith) u
+once_counted u x (y ∷ l) = once_counted (counted_answer u x) y l ∙ counted_summed u x (y ∷ l)
 
-pub from-any : (u : Usage) → UsageInRange u → (l : List Answer) → recordOf u l ≡ summed u l
-unfolding recordOf summed total_of
-from-any u h [] = sym h ∙ each_same (λ m n. saturated n) (λ m n. saturated (n + 0)) (λ m n. omega arith) u
-from-any u h (x ∷ l) = once-counted u x l
+pub from_any : (u : Usage) → UsageInRange u → (l : List Answer) → record_of u l ≡ summed u l
+unfolding record_of summed total_of
+from_any u h [] = sym h ∙ each_same (λ m n. saturated n) (λ m n. saturated (n + 0)) (λ m n. omega arith) u
+from_any u h (x ∷ l) = once_counted u x l
 
 -- every answer is of a call
-total-calls : (l : List Answer) → total_of call_of l ≡ length l
+total_calls : (l : List Answer) → total_of call_of l ≡ length l
 unfolding total_of
-total-calls [] = refl
-total-calls (x ∷ l) = omega (arith, total-calls l)
+total_calls [] = refl
+total_calls (x ∷ l) = omega (arith, total_calls l)
 
-summed-unused : (l : List Answer) → summed unused l ≡ spent l
-unfolding summed spent eachCounter
-summed-unused l = same-usage (omega (arith, total-calls l)) (omega arith) (omega arith) (omega arith)
+summed_unused : (l : List Answer) → summed unused l ≡ spent l
+unfolding summed spent each_counter
+summed_unused l = same_usage (omega (arith, total_calls l)) (omega arith) (omega arith) (omega arith)
 
-pub from-unused : (l : List Answer) → recordOf unused l ≡ spent l
-unfolding eachCounter
-from-unused l = from-any unused refl l ∙ summed-unused l
+pub from_unused : (l : List Answer) → record_of unused l ≡ spent l
+unfolding each_counter
+from_unused l = from_any unused refl l ∙ summed_unused l
 
-pub sums-cut : SumsCut
-sums-cut = record { from-any = from-any; once-counted = once-counted; from-unused = from-unused }
+pub sums_cut : SumsCut
+sums_cut = record { from_any = from_any; once_counted = once_counted; from_unused = from_unused }
 
 -- an answer at the end of a history is counted last
-pub record-append : (u : Usage) (l : List Answer) (x : Answer) → recordOf u (l ++ x ∷ []) ≡ countedAnswer (recordOf u l) x
-unfolding recordOf
-record-append u [] x = refl
-record-append u (y ∷ l) x = record-append (countedAnswer u y) l x
+pub record_append : (u : Usage) (l : List Answer) (x : Answer) → record_of u (l ++ x ∷ []) ≡ counted_answer (record_of u l) x
+unfolding record_of
+record_append u [] x = refl
+record_append u (y ∷ l) x = record_append (counted_answer u y) l x

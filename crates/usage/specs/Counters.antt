@@ -6,19 +6,19 @@ use Rattle.answer.specs.Numbers.{numbers}
 use Rattle.usage.specs.declared.Usage.{Usage}
 
 -- the largest number of 32 bits
-abbrev pub counterLimit : ℕ
-counterLimit = 4294967295
+abbrev pub counter_limit : ℕ
+counter_limit = 4294967295
 
 abbrev pub saturated : ℕ → ℕ
-saturated n = min n counterLimit
+saturated n = min n counter_limit
 
 -- a record's four numbers in order
-abbrev pub usageOf : ℕ → ℕ → ℕ → ℕ → Usage
-usageOf c r a d = record { calls = c; refusals = r; acceptances = a; called = d }
+abbrev pub usage_of : ℕ → ℕ → ℕ → ℕ → Usage
+usage_of c r a d = record { calls = c; refusals = r; acceptances = a; called = d }
 
 -- the empty record
 abbrev pub unused : Usage
-unused = usageOf 0 0 0 0
+unused = usage_of 0 0 0 0
 
 -- what one answer adds to a counter
 abbrev pub Measure : Type 0
@@ -28,22 +28,22 @@ Measure = Answer → ℕ
 abbrev pub call_of : Measure
 call_of x = 1
 
-abbrev pub refusalOf : Measure
-refusalOf (Refused e) = 1
-refusalOf Passed = 0
-refusalOf (Rejected c) = 0
-refusalOf (Accepted c) = 0
+abbrev pub refusal_of : Measure
+refusal_of (Refused e) = 1
+refusal_of Passed = 0
+refusal_of (Rejected c) = 0
+refusal_of (Accepted c) = 0
 
-abbrev pub acceptanceOf : Measure
-acceptanceOf (Refused e) = 0
-acceptanceOf Passed = 0
-acceptanceOf (Rejected c) = 0
-acceptanceOf (Accepted c) = 1
+abbrev pub acceptance_of : Measure
+acceptance_of (Refused e) = 0
+acceptance_of Passed = 0
+acceptance_of (Rejected c) = 0
+acceptance_of (Accepted c) = 1
 
 -- the calls that the descent made: the answer's count, 0 where it is none of a descent
-abbrev pub calledOf : Measure
-calledOf x = (numbers x).count
+abbrev pub called_of : Measure
+called_of x = (numbers x).count
 
 -- the four at once: each counter, by what its measure and its number give
-unfoldable pub eachCounter : (Measure → ℕ → ℕ) → Usage → Usage
-eachCounter f u = usageOf (f call_of u.calls) (f refusalOf u.refusals) (f acceptanceOf u.acceptances) (f calledOf u.called)
+unfoldable pub each_counter : (Measure → ℕ → ℕ) → Usage → Usage
+each_counter f u = usage_of (f call_of u.calls) (f refusal_of u.refusals) (f acceptance_of u.acceptances) (f called_of u.called)

@@ -1,4 +1,4 @@
 pub mod Counters
 pub mod Histories
-pub mod contracts
+pub mod inner
 pub mod examples

@@ -1,8 +1,8 @@
 // A record of how a judge has been used: four counters, each of which stops at the largest number of 32 bits.
 ghost use Rattle.std.specs.Prelude.{◌≡◌, ◌+◌};
 ghost use Rattle.usage.specs.Counters.{saturated, unused};
-ghost use Rattle.usage.specs.contracts.Counters.{added};
-ghost use Rattle.usage.specs.Histories.{countedAnswer};
+ghost use Rattle.usage.specs.inner.Counters.{added};
+ghost use Rattle.usage.specs.Histories.{counted_answer};
 
 use answer::Answer;
 
@@ -55,7 +55,7 @@ impl Usage {
 
     // The record with this answer counted.
     pub fn after(self, answer: Answer) -> Usage
-        ensures { result ≡ countedAnswer self answer }
+        ensures { result ≡ counted_answer self answer }
     {
         match answer {
             Answer::Refused(_) => self.plus(1, 1, 0, 0),

@@ -2,7 +2,7 @@
 ghost use Rattle.std.specs.Prelude.{◌≡◌, min};
 ghost use Rattle.event.specs.Events.{input_of};
 ghost use Rattle.grammar.specs.Reading.{reading};
-ghost use Rattle.tree_writer_promises.specs.contracts.Labels.{labelsOf, labelsRead};
+ghost use Rattle.tree_writer_promises.specs.inner.Labels.{labels_of, labels_read};
 
 use grammar::limits::{MEMO_ENTRIES, NONTERMINALS, PLACES, TOKENS};
 use grammar::reading::{Reading, Sizes};
@@ -18,7 +18,7 @@ fn fitting(number: usize, room: usize) -> usize
 
 // By the sizes of a grammar: a row for each nonterminal, while there is room.
 fn labels_by(sizes: Sizes, events: &[u8], table: &[u32], memo: &[u16]) -> [u32; MEMO_ENTRIES]
-    ensures { result ≡ labelsOf sizes (input_of events.now) table.now memo.now }
+    ensures { result ≡ labels_of sizes (input_of events.now) table.now memo.now }
 {
     let rows = fitting(sizes.nonterminals as usize, NONTERMINALS as usize);
     let last = fitting(events.len(), TOKENS);
@@ -40,7 +40,7 @@ fn labels_by(sizes: Sizes, events: &[u8], table: &[u32], memo: &[u16]) -> [u32; 
 
 // By an encoded grammar, and what judging left in the lent memories.
 pub fn labels_of(words: &[u32], events: &[u8], table: &[u32], memo: &[u16]) -> [u32; MEMO_ENTRIES]
-    ensures { result ≡ labelsRead (reading words.now) (input_of events.now) table.now memo.now }
+    ensures { result ≡ labels_read (reading words.now) (input_of events.now) table.now memo.now }
 {
     let outcome = read(words);
     let Reading::Read(sizes) = outcome else {

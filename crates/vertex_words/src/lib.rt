@@ -2,8 +2,8 @@
 ghost use Rattle.std.specs.Prelude.{◌≡◌, ◌%◌, ltb, get_or};
 ghost use Rattle.event.specs.Events.{input_of};
 ghost use Rattle.tree.specs.ParseTrees.{vertex};
-ghost use Rattle.tree.specs.Writing.{vertexWord};
-ghost use Rattle.tree_writer_promises.specs.contracts.Labels.{labelRule, labelStart, labelEnd, kind, markedWord, label_of};
+ghost use Rattle.tree.specs.Writing.{vertex_word};
+ghost use Rattle.tree_writer_promises.specs.inner.Labels.{label_rule, label_start, label_end, kind, marked_word, label_of};
 
 use columns::column_at;
 use grammar::limits::TOKENS;
@@ -20,33 +20,33 @@ const ENDS: u32 = 512;
 const KIND: u32 = 2147483648;
 
 fn vertex_word(rule: u32, start: u16, end: u16) -> u32
-    ensures { result ≡ vertexWord (vertex (labelRule rule) start (end % 512)) }
+    ensures { result ≡ vertex_word (vertex (label_rule rule) start (end % 512)) }
 {
     KIND + end as u32 % ENDS * END + start as u32 * START + rule % START
 }
 
 // The rule of a vertex, where it begins and where it ends.
 pub fn rule_of(word: u32) -> usize
-    ensures { result ≡ labelRule word }
+    ensures { result ≡ label_rule word }
 {
     (word % START) as usize
 }
 
 pub fn start_of(word: u32) -> usize
-    ensures { result ≡ labelStart word }
+    ensures { result ≡ label_start word }
 {
     (word / START % ENDS) as usize
 }
 
 pub fn end_of(word: u32) -> usize
-    ensures { result ≡ labelEnd word }
+    ensures { result ≡ label_end word }
 {
     (word / END % ENDS) as usize
 }
 
 // The word that is kept of a vertex is marked once the vertex is written: it has no kind then.
 pub fn marked(word: u32) -> u32
-    ensures { result ≡ markedWord word }
+    ensures { result ≡ marked_word word }
 {
     word % KIND
 }

@@ -20,8 +20,8 @@ bare w p = choose (eqb p 0) w Invalid
 unfoldable pub heading : ℕ → Word
 heading p = choose (ltb p (2 ^ 16)) (Heading (p % 2 ^ 8) (p / 2 ^ 8)) Invalid
 
-unfoldable pub ofKind : ℕ → ℕ → Word
-ofKind k p =
+unfoldable pub of_kind : ℕ → ℕ → Word
+of_kind k p =
     choose (eqb k 1) (heading p)
     (choose (eqb k 2) (Rule p)
     (choose (eqb k 3) (bare Positive p)
@@ -32,4 +32,4 @@ ofKind k p =
     Invalid))))))
 
 unfoldable pub decoded : ℕ → Word
-decoded w = ofKind (kind w) (payload w)
+decoded w = of_kind (kind w) (payload w)

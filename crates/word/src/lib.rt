@@ -1,6 +1,6 @@
 // What a 32-bit word of an encoded grammar stands for.
 ghost use Rattle.std.specs.Prelude.{◌≡◌};
-ghost use Rattle.word.specs.Words.{payload as payloadOf, bare as bareWord, heading as headingWord, decoded};
+ghost use Rattle.word.specs.Words.{payload as payload_of, bare as bare_word, heading as heading_word, decoded};
 
 // A symbol of a body (document 01: a letter or a name, each with its number).
 #[derive(Drop)]
@@ -23,13 +23,13 @@ pub enum Word {
 
 // A word whose kind has no payload.
 fn bare(word: Word, payload: u32) -> Word
-    ensures { result ≡ bareWord word payload }
+    ensures { result ≡ bare_word word payload }
 {
     if payload == 0 { word } else { Word::Invalid }
 }
 
 fn heading(payload: u32) -> Word
-    ensures { result ≡ headingWord payload }
+    ensures { result ≡ heading_word payload }
 {
     if payload < 65536 {
         Word::Heading {
@@ -42,7 +42,7 @@ fn heading(payload: u32) -> Word
 }
 
 fn payload(bits: u32) -> u32
-    ensures { result ≡ payloadOf bits }
+    ensures { result ≡ payload_of bits }
 {
     bits % 268435456
 }

@@ -2,55 +2,55 @@
 use mathlib.Core.Path.{◌≡◌, refl, ap, ap₂, ◌∙◌}
 use mathlib.Core.List.{List, [], ◌∷◌, map}
 use mathlib.Core.Option.{none}
-use Rattle.answer.specs.Faults.{firstFault, refusedOr}
+use Rattle.answer.specs.Faults.{first_fault, refused_or}
 use Rattle.answer.specs.Numbers.{Numbers, numbers}
-use Rattle.word.specs.Words.{bare, heading, ofKind, decoded}
-use Rattle.grammar.specs.examples.Cards.{wordsR, wordsM, wordsE}
-use Rattle.grammar.specs.Encoding.{on_word, parse, grammarOf}
-use Rattle.grammar.specs.Limits.{maxTableWords, maxMemoEntries}
-use Rattle.grammar.specs.Reading.{counted, stepped, onStep, finished, scan, isWithin, headed, opened, reading}
+use Rattle.word.specs.Words.{bare, heading, of_kind, decoded}
+use Rattle.grammar.specs.examples.Cards.{words_r, words_m, words_e}
+use Rattle.grammar.specs.Encoding.{on_word, parse, grammar_of}
+use Rattle.grammar.specs.Limits.{max_table_words, max_memo_entries}
+use Rattle.grammar.specs.Reading.{counted, stepped, on_step, finished, scan, is_within, headed, opened, reading}
 use Rattle.lookahead.specs.declared.Lookahead.TheVariants.{One}
-use Rattle.semantics_examples.proofs.Computing.{left-recursion-computes, tables-compute, descent-computes, calls-compute}
-use Rattle.semantics.specs.Productive.{unproductive, lowestUnproductive}
+use Rattle.semantics_examples.proofs.Computing.{left_recursion_computes, tables_compute, descent_computes, calls_compute}
+use Rattle.semantics.specs.Productive.{unproductive, lowest_unproductive}
 use Rattle.table_promises.specs.Analysis.{fault}
-use Rattle.columns.specs.Columns.{columnString}
-use Rattle.table_promises.specs.Conflicts.{rowConflict, conflictFrom, firstClash}
-use Rattle.event.specs.Unknown.{unknownFrom}
-use Rattle.recognizer_promises.specs.Answers.{inputFaults, verdictOf}
+use Rattle.columns.specs.Columns.{column_string}
+use Rattle.table_promises.specs.Conflicts.{row_conflict, conflict_from, first_clash}
+use Rattle.event.specs.Unknown.{unknown_from}
+use Rattle.recognizer_promises.specs.Answers.{input_faults, verdict_of}
 use Rattle.worked_examples.specs.examples.Rows.{Row, starred, judged}
-use Rattle.recognizer_promises.proofs.JudgeFaults.{judged-rows}
+use Rattle.recognizer_promises.proofs.JudgeFaults.{judged_rows}
 
 -- the three cards pass
-passes : (fault One wordsR ≡ none) × (fault One wordsM ≡ none) × (fault One wordsE ≡ none)
-unfolding fault firstClash conflictFrom rowConflict columnString reading opened headed isWithin scan finished onStep stepped counted
-    grammarOf parse on_word decoded ofKind heading bare lowestUnproductive unproductive left-recursion-computes tables-compute
+passes : (fault One words_r ≡ none) × (fault One words_m ≡ none) × (fault One words_e ≡ none)
+unfolding fault first_clash conflict_from row_conflict column_string reading opened headed is_within scan finished on_step stepped counted
+    grammar_of parse on_word decoded of_kind heading bare lowest_unproductive unproductive left_recursion_computes tables_compute
 passes = (refl, refl, refl)
 
 -- what is reported of an input once the card has passed
 abbrev told : Row → Numbers
-told r = numbers (refusedOr (firstFault (inputFaults (grammarOf r.words).terminals r.input)) (verdictOf One (grammarOf r.words) r.input))
+told r = numbers (refused_or (first_fault (input_faults (grammar_of r.words).terminals r.input)) (verdict_of One (grammar_of r.words) r.input))
 
 abbrev AllPass : List Row → Type 0
 AllPass [] = Unit {0}
 AllPass (r ∷ l) = (fault One r.words ≡ none) × AllPass l
 
-judged-told : (r : Row) → fault One r.words ≡ none → judged r.words r.input ≡ told r
+judged_told : (r : Row) → fault One r.words ≡ none → judged r.words r.input ≡ told r
 unfolding judged
-judged-told r p =
-    ap (λ f. numbers (refusedOr f (verdictOf One (grammarOf r.words) r.input)))
-    (judged-rows One maxTableWords maxMemoEntries r.words r.input ∙ ap (λ f. firstFault (f ∷ inputFaults (grammarOf r.words).terminals r.input)) p)
+judged_told r p =
+    ap (λ f. numbers (refused_or f (verdict_of One (grammar_of r.words) r.input)))
+    (judged_rows One max_table_words max_memo_entries r.words r.input ∙ ap (λ f. first_fault (f ∷ input_faults (grammar_of r.words).terminals r.input)) p)
 
 all_told : (l : List Row) → AllPass l → map (λ r. judged r.words r.input) l ≡ map told l
 all_told [] h = refl
-all_told (r ∷ l) h = ap₂ ◌∷◌ (judged-told r h.0) (all_told l h.1)
+all_told (r ∷ l) h = ap₂ ◌∷◌ (judged_told r h.0) (all_told l h.1)
 
-starred-told : map told starred ≡ map (λ r. r.told) starred
-unfolding verdictOf unknownFrom grammarOf parse on_word decoded ofKind heading bare tables-compute descent-computes calls-compute
-starred-told = refl
+starred_told : map told starred ≡ map (λ r. r.told) starred
+unfolding verdict_of unknown_from grammar_of parse on_word decoded of_kind heading bare tables_compute descent_computes calls_compute
+starred_told = refl
 
-pub starred-rows : map (λ r. judged r.words r.input) starred ≡ map (λ r. r.told) starred
-starred-rows =
+pub starred_rows : map (λ r. judged r.words r.input) starred ≡ map (λ r. r.told) starred
+starred_rows =
     let R = passes.0 in
     let M = passes.1 in
     let E = passes.2 in
-    all_told starred (R, (R, (M, (M, (M, (M, (M, (M, (E, (E, tt)))))))))) ∙ starred-told
+    all_told starred (R, (R, (M, (M, (M, (M, (M, (M, (E, (E, tt)))))))))) ∙ starred_told

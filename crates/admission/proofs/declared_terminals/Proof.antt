@@ -3,12 +3,12 @@ use mathlib.Core.Path.{ap, ◌∙◌}
 use native.Mathlib.Omega.{arith}
 use borrow.Author.Rules.{rules}
 use Rattle.grammar.specs.Encoding.{declared_by}
-use Rattle.admission.proofs.Admitted.{no-terminals, terminals-declared}
+use Rattle.admission.proofs.Admitted.{no_terminals, terminals_declared}
 use Rattle.admission.proofs.declared_terminals.Statement.{statement}
 use Rattle.admission.proofs.declared_terminals.Tie as tie
 
 returns : tie.Need-returns
-returns c = no-terminals c.before.before.args.words.now (omega arith)
+returns c = no_terminals c.before.before.args.words.now (omega arith)
 
 shared-slice-read-decode : tie.Need-shared-slice-read-decode
 shared-slice-read-decode c = search rules
@@ -24,7 +24,7 @@ returns-2 c =
     let at-decode = c.before in
     let start = at-decode.before.before.before.before in
     ap (λ z. z.terminals) (c.declared.ensures ∙ ap declared_by at-decode.decode.ensures)
-    ∙ terminals-declared start.args.words.now (omega arith)
+    ∙ terminals_declared start.args.words.now (omega arith)
 
 pub declared-terminals-spec : {M : Type 1} → statement M
 declared-terminals-spec =

@@ -3,13 +3,13 @@ use mathlib.Core.Path.{◌≡◌, refl, sym, ◌∙◌}
 use Prim.Native.Nat.{◌-◌}
 use native.Mathlib.Omega.{arith}
 use lib.ListN.{length, drop}
-use Rattle.admission.specs.Admission.{aloneFrom, firstAlone}
-use Rattle.admission.proofs.WithoutPositives.{alone-here, alone-next, alone-none}
+use Rattle.admission.specs.Admission.{alone_from, first_alone}
+use Rattle.admission.proofs.WithoutPositives.{alone_here, alone_next, alone_none}
 use Rattle.admission.proofs.first_alone.Statement.{statement}
 use Rattle.admission.proofs.first_alone.Tie as tie
 
 abbrev invariant-loop : tie.invariant-loop
-invariant-loop words opened₀ at₀ opened at = aloneFrom opened at (drop at words) ≡ firstAlone words
+invariant-loop words opened₀ at₀ opened at = alone_from opened at (drop at words) ≡ first_alone words
 
 abbrev decreases-loop : tie.decreases-loop
 decreases-loop words opened₀ at₀ opened at = length words - at
@@ -35,8 +35,8 @@ returns c =
     let decoded = told.before in
     let turn = decoded.before.before in
     let at-loop = turn.before in
-    sym (alone-here at-loop.before.before.args.words.now at-loop.loop.opened at-loop.loop.at turn.loop-test.true decoded.decode.ensures
-    (sym told.stands-alone.ensures ∙ c.if1.true)) ∙ at-loop.loop.invariant
+    sym (alone_here at-loop.before.before.args.words.now at-loop.loop.opened at-loop.loop.at turn.loop-test.true decoded.decode.ensures
+    (sym told.stands_alone.ensures ∙ c.if1.true)) ∙ at-loop.loop.invariant
 
 begins-rule-requires : tie.Need-begins-rule-requires invariant-loop decreases-loop
 begins-rule-requires c κs = tt
@@ -53,13 +53,13 @@ loop-again c =
     let decoded = told.before in
     let turn = decoded.before.before in
     let at-loop = turn.before in
-    sym (alone-next at-loop.before.before.args.words.now at-loop.loop.opened at-loop.loop.at turn.loop-test.true decoded.decode.ensures
-    (sym told.stands-alone.ensures ∙ c.before.if1.false) c.begins-rule.ensures) ∙ at-loop.loop.invariant
+    sym (alone_next at-loop.before.before.args.words.now at-loop.loop.opened at-loop.loop.at turn.loop-test.true decoded.decode.ensures
+    (sym told.stands_alone.ensures ∙ c.before.if1.false) c.begins_rule.ensures) ∙ at-loop.loop.invariant
 
 returns-2 : tie.Need-returns-2 invariant-loop decreases-loop
 returns-2 c =
     let at-loop = c.before in
-    sym (alone-none at-loop.before.before.args.words.now at-loop.loop.opened at-loop.loop.at c.loop-test.false) ∙ at-loop.loop.invariant
+    sym (alone_none at-loop.before.before.args.words.now at-loop.loop.opened at-loop.loop.at c.loop-test.false) ∙ at-loop.loop.invariant
 
 pub first-alone-spec : {M : Type 1} → statement M
 first-alone-spec =

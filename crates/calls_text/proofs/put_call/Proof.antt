@@ -1,12 +1,12 @@
 -- By whether the call was made.
-use Rattle.text.proofs.Writing.{put-none, put_then}
-use Rattle.calls_text.proofs.Lines.{uncalled-put, call-put}
+use Rattle.text.proofs.Writing.{put_none, put_then}
+use Rattle.calls_text.proofs.Lines.{uncalled_put, call_put}
 use borrow.Author.Rules.{rules}
 use Rattle.calls_text.proofs.put_call.Statement.{statement}
 use Rattle.calls_text.proofs.put_call.Tie as tie
 
 returns : tie.Need-returns
-returns c = uncalled-put _ _ _ c.if1.true (put-none _ _)
+returns c = uncalled_put _ _ _ c.if1.true (put_none _ _)
 
 put-number-requires : tie.Need-put-number-requires
 put-number-requires c κs = search rules
@@ -36,7 +36,7 @@ returns-2 c =
     let second = third.before.before.before.before in
     let first = second.before.before.before.before.before in
     let test = first.before.before in
-    call-put _ _ _ test.if1.false
+    call_put _ _ _ test.if1.false
     (put_then (put_then (put_then first.put-number.ensures second.put-labelled.ensures) third.put-end.ensures) last.put-bytes.ensures)
 
 pub put-call-spec : {M : Type 1} → statement M

@@ -1,10 +1,10 @@
 -- The loop keeps: the cursor stands, and the calls of the entries before it are put.
 use Prim.Native.Nat.{◌-◌}
 use native.Mathlib.Omega.{arith}
-use Rattle.text.proofs.Writing.{put-length, put_last}
-use Rattle.calls_text.proofs.Cursors.{Passing, passing-first, passing_step}
-use Rattle.calls_text.proofs.Lines.{few-entries}
-use Rattle.calls_text.specs.Calls.{callsText}
+use Rattle.text.proofs.Writing.{put_length, put_last}
+use Rattle.calls_text.proofs.Cursors.{Passing, passing_first, passing_step}
+use Rattle.calls_text.proofs.Lines.{few_entries}
+use Rattle.calls_text.specs.Calls.{calls_text}
 use Rattle.calls_text.proofs.put_calls.Statement.{statement}
 use Rattle.calls_text.proofs.put_calls.Tie as tie
 
@@ -18,13 +18,13 @@ add-entries : tie.Need-overflow-add-entries invariant-loop decreases-loop
 add-entries c = omega arith
 
 mul-entries : tie.Need-overflow-mul-entries invariant-loop decreases-loop
-mul-entries c = record { fits = few-entries _ _ (omega arith) (omega arith) }
+mul-entries c = record { fits = few_entries _ _ (omega arith) (omega arith) }
 
 first-requires : tie.Need-first-requires invariant-loop decreases-loop
 first-requires c κs = tt
 
 loop-holds : tie.Need-loop-init invariant-loop decreases-loop
-loop-holds c = passing-first _ _ c.before.before.before.args.memo.now _ _ _ c.first.ensures.0 c.first.ensures.1
+loop-holds c = passing_first _ _ c.before.before.before.args.memo.now _ _ _ c.first.ensures.0 c.first.ensures.1
 
 put-entry-requires : tie.Need-put-entry-requires invariant-loop decreases-loop
 put-entry-requires c κs = tt
@@ -33,7 +33,7 @@ step-requires : tie.Need-step-requires invariant-loop decreases-loop
 step-requires c κs =
     let at-loop = c.before.before.before.before.before.before in
     let start = at-loop.before.before.before.before in
-    (at-loop.loop.invariant.1, omega (arith, few-entries start.args.nonterminals start.args.tokens (omega arith) (omega arith)))
+    (at-loop.loop.invariant.1, omega (arith, few_entries start.args.nonterminals start.args.tokens (omega arith) (omega arith)))
 
 loop-less : tie.Need-loop-smaller invariant-loop decreases-loop
 loop-less c = omega (arith, c.step.ensures.0)
@@ -47,10 +47,10 @@ loop-again c =
     c.step.ensures.0 c.step.ensures.1
 
 same_length : tie.Need-same-length invariant-loop decreases-loop
-same_length c = put-length c.before.before.loop.invariant.2
+same_length c = put_length c.before.before.loop.invariant.2
 
 returns : tie.Need-returns invariant-loop decreases-loop
-unfolding callsText
+unfolding calls_text
 returns c =
     let at-loop = c.before.before in
     put_last _ at-loop.loop.invariant.0 c.if1.false at-loop.loop.invariant.2

@@ -1,5 +1,5 @@
 -- The nonterminal and the place that the cursor carries are those of its index.
-use Rattle.calls_text.proofs.Cursors.{entry-put}
+use Rattle.calls_text.proofs.Cursors.{entry_put}
 use borrow.Author.Rules.{rules}
 use Rattle.calls_text.proofs.put_entry.Statement.{statement}
 use Rattle.calls_text.proofs.put_entry.Tie as tie
@@ -17,7 +17,7 @@ returns : tie.Need-returns
 returns c =
     let called = c.before.before in
     let loaded = called.before in
-    entry-put loaded.before.before.before.before.args.memo.now _ _ loaded.entry_at.ensures called.put-call.ensures
+    entry_put loaded.before.before.before.before.args.memo.now _ _ loaded.entry_at.ensures called.put-call.ensures
 
 pub put-entry-spec : {M : Type 1} → statement M
 put-entry-spec = tie.close (tie.spec entry-at-requires put-call-requires same_length returns)

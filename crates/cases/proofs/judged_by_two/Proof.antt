@@ -1,7 +1,7 @@
 -- The words that are lent are those of the file.
 use Prim.Native.Nat.{ℕ}
 use lib.ListN.{length-replicate}
-use Rattle.grammar.specs.Limits.{maxWords}
+use Rattle.grammar.specs.Limits.{max_words}
 use Rattle.report_texts.proofs.Files.{found}
 use borrow.Author.Rules.{rules}
 use Rattle.cases.proofs.judged_by_two.Statement.{statement}
@@ -29,11 +29,11 @@ returns : tie.Need-returns
 returns c = search rules
 
 array-share-prefix-words : tie.Need-array-share-prefix-words
-array-share-prefix-words c = (found c.before.before.before.load.ensures c.before.loaded.given.1 (length-replicate {A = ℕ} maxWords 0)).few
+array-share-prefix-words c = (found c.before.before.before.load.ensures c.before.loaded.given.1 (length-replicate {A = ℕ} max_words 0)).few
 
 slice-aggregate-judge-two : tie.Need-slice-aggregate-judge-two
 slice-aggregate-judge-two c =
-    (found c.before.before.before.before.load.ensures c.before.before.loaded.given.1 (length-replicate {A = ℕ} maxWords 0)).part
+    (found c.before.before.before.before.load.ensures c.before.before.loaded.given.1 (length-replicate {A = ℕ} max_words 0)).part
 
 slice-aggregate-judge-two-2 : tie.Need-slice-aggregate-judge-two-2
 slice-aggregate-judge-two-2 c = search rules

@@ -4,31 +4,31 @@ use mathlib.Core.Logic.{◌⊎◌, inl, inr}
 use Prim.Native.Nat.{◌≤◌, ◌-◌}
 use native.Mathlib.Omega.{arith}
 use lib.Count.{count_trailing_zeros}
-use Rattle.tabular_promises.specs.contracts.Chart.{addedTo}
+use Rattle.tabular_promises.specs.inner.Chart.{added_to}
 use Rattle.tabular_promises.proofs.PlaceSets.{digit}
-use Rattle.tabular_promises.proofs.Charts.{first-added, adding-more, none-added, added-of-many, added-beyond, no-more-added, last-added}
+use Rattle.tabular_promises.proofs.Charts.{first_added, adding_more, none_added, added_of_many, added_beyond, no_more_added, last_added}
 use Rattle.chart.proofs.add.Statement.{statement}
 use Rattle.chart.proofs.add.Tie as tie
 
 abbrev invariant-loop : tie.invariant-loop
-invariant-loop chart₀ nonterminals start end word at₀ chart at = ((at ≤ nonterminals) ⊎ (at ≤ count_trailing_zeros 32 word)) × (chart ≡ addedTo chart₀ start end word at)
+invariant-loop chart₀ nonterminals start end word at₀ chart at = ((at ≤ nonterminals) ⊎ (at ≤ count_trailing_zeros 32 word)) × (chart ≡ added_to chart₀ start end word at)
 
 abbrev decreases-loop : tie.decreases-loop
 decreases-loop chart₀ nonterminals start end word at₀ chart at = nonterminals - at
 
 returns : tie.Need-returns invariant-loop decreases-loop
-returns c = none-added _ _ _ _ _ c.if1.true
+returns c = none_added _ _ _ _ _ c.if1.true
 
 returns-2 : tie.Need-returns-2 invariant-loop decreases-loop
-returns-2 c = added-of-many _ _ _ _ _ c.if2.true
+returns-2 c = added_of_many _ _ _ _ _ c.if2.true
 
 returns-3 : tie.Need-returns-3 invariant-loop decreases-loop
-returns-3 c = added-beyond _ _ _ _ _ c.before.if2.false c.if3.true
+returns-3 c = added_beyond _ _ _ _ _ c.before.if2.false c.if3.true
 
 loop-holds : tie.Need-loop-init invariant-loop decreases-loop
 loop-holds c =
     let args = c.before.before.before.args in
-    (inr (omega arith), first-added args.chart.now args.start args.end args.word (count_trailing_zeros 32 args.word) (omega arith))
+    (inr (omega arith), first_added args.chart.now args.start args.end args.word (count_trailing_zeros 32 args.word) (omega arith))
 
 shr-rest : tie.Need-overflow-shr-rest invariant-loop decreases-loop
 shr-rest c = omega (arith, c.loop-test.true, c.before.before.before.if2.false)
@@ -37,7 +37,7 @@ returns-4 : tie.Need-returns-4 invariant-loop decreases-loop
 returns-4 c =
     let at-loop = c.before.before in
     let within = at-loop.before in
-    no-more-added _ _ _ _ _ within.before.if2.false within.if3.false at-loop.loop.at (omega (arith, c.before.loop-test.true))
+    no_more_added _ _ _ _ _ within.before.if2.false within.if3.false at-loop.loop.at (omega (arith, c.before.loop-test.true))
     at-loop.loop.invariant.1 c.if4.true
 
 cast-slot : tie.Need-overflow-cast-slot invariant-loop decreases-loop
@@ -82,14 +82,14 @@ loop-again c =
     let at-loop = at-loop-test.before in
     let start = at-loop.before.before.before.before in (
       inl (omega (arith, at-loop-test.loop-test.true)),
-      adding-more _ _ _ _ at-loop.loop.at at-loop.loop.invariant.1 (digit start.args.word at-loop.loop.at) c.put.ensures,
+      adding_more _ _ _ _ at-loop.loop.at at-loop.loop.invariant.1 (digit start.args.word at-loop.loop.at) c.put.ensures,
     )
 
 returns-5 : tie.Need-returns-5 invariant-loop decreases-loop
 returns-5 c =
     let at-loop = c.before in
     let within = at-loop.before in
-    last-added _ _ _ _ _ at-loop.loop.at within.before.if2.false within.if3.false at-loop.loop.invariant.0 c.loop-test.false
+    last_added _ _ _ _ _ at-loop.loop.at within.before.if2.false within.if3.false at-loop.loop.invariant.0 c.loop-test.false
     at-loop.loop.invariant.1
 
 pub add_spec : {M : Type 1} → statement M

@@ -2,8 +2,8 @@
 use mathlib.Core.Path.{◌≡◌, refl}
 use Prim.Native.Nat.{suc, ◌-◌, ◌≤◌}
 use native.Mathlib.Omega.{arith}
-use Rattle.tabular_promises.specs.contracts.Chart.{gathered}
-use Rattle.tabular_promises.proofs.Reaching.{gathered-start, gathered-more, none_before, none-beyond, all-before}
+use Rattle.tabular_promises.specs.inner.Chart.{gathered}
+use Rattle.tabular_promises.proofs.Reaching.{gathered_start, gathered_more, none_before, none_beyond, all_before}
 use Rattle.chart.proofs.before.Statement.{statement}
 use Rattle.chart.proofs.before.Tie as tie
 
@@ -18,10 +18,10 @@ returns : tie.Need-returns invariant-loop decreases-loop
 returns c = none_before _ _ _ _ _ c.if1.true
 
 returns-2 : tie.Need-returns-2 invariant-loop decreases-loop
-returns-2 c = none-beyond _ _ _ _ _ c.before.if1.false c.if2.true
+returns-2 c = none_beyond _ _ _ _ _ c.before.if1.false c.if2.true
 
 loop-holds : tie.Need-loop-init invariant-loop decreases-loop
-loop-holds c = (omega arith, omega arith, gathered-start _ _ _ _)
+loop-holds c = (omega arith, omega arith, gathered_start _ _ _ _)
 
 contains-requires : tie.Need-contains-requires invariant-loop decreases-loop
 contains-requires c κs = tt
@@ -56,14 +56,14 @@ loop-again c =
     let test = c.before.before.before.loop-test.true in (
       omega (arith, inv.0),
       omega (arith, inv.0, test),
-      gathered-more _ _ _ _ _ _ _ _ _ inv.0 inv.2 c.before.before.contains.ensures refl c.joined.ensures,
+      gathered_more _ _ _ _ _ _ _ _ _ inv.0 inv.2 c.before.before.contains.ensures refl c.joined.ensures,
     )
 
 returns-3 : tie.Need-returns-3 invariant-loop decreases-loop
 returns-3 c =
     let inv = c.before.loop.invariant in
     let within = c.before.before in
-    all-before _ _ _ _ _ within.before.if1.false c.before.loop.at within.if2.false inv.2 (omega (arith, inv.1, c.loop-test.false))
+    all_before _ _ _ _ _ within.before.if1.false c.before.loop.at within.if2.false inv.2 (omega (arith, inv.1, c.loop-test.false))
 
 pub before-spec : {M : Type 1} → statement M
 before-spec =

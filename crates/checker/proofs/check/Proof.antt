@@ -1,7 +1,7 @@
 -- What checking answers, by the table's length and by what is found of the grammar.
 use Rattle.lookahead.specs.declared.Lookahead.TheVariants.{One}
-use Rattle.recognizer_promises.proofs.Checking.{check-short}
-use Rattle.checker.proofs.Checked.{room-lacks, room-there, checks-found}
+use Rattle.recognizer_promises.proofs.Checking.{check_short}
+use Rattle.checker.proofs.Checked.{room_lacks, room_there, checks_found}
 use borrow.Author.Rules.{rules}
 use Rattle.checker.proofs.check.Statement.{statement}
 use Rattle.checker.proofs.check.Tie as tie
@@ -10,7 +10,7 @@ has-room-requires : tie.Need-has-room-requires
 has-room-requires c κs = search rules
 
 returns : tie.Need-returns
-returns c = check-short One (room-lacks One c.before.has_room.ensures c.if1.true)
+returns c = check_short One (room_lacks One c.before.has_room.ensures c.if1.true)
 
 find-into-requires : tie.Need-find-into-requires
 find-into-requires c κs = search rules
@@ -31,7 +31,7 @@ returns-2 c =
     let tested = found.before.before.before.before.before in
     let room = tested.before in
     let given = room.before.before.before.args in
-    checks-found One given.words.now given.table.now (room-there One room.has_room.ensures tested.if1.false)
+    checks_found One given.words.now given.table.now (room_there One room.has_room.ensures tested.if1.false)
     found.find-into.ensures lent.lend.ensures c.answer.ensures
 
 pub check-spec : {M : Type 1} → statement M

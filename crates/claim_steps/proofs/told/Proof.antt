@@ -1,7 +1,7 @@
 -- By whether more than the end can follow, and then by whether the rule has positives.
 use mathlib.Core.Path.{◌∙◌}
 use borrow.Author.Rules.{rules}
-use Rattle.claim_steps.proofs.Overruns.{told-ends, told_more}
+use Rattle.claim_steps.proofs.Overruns.{told_ends, told_more}
 use Rattle.claim_steps.proofs.told.Statement.{statement}
 use Rattle.claim_steps.proofs.told.Tie as tie
 
@@ -15,7 +15,7 @@ returns : tie.Need-returns
 returns c =
     let at_join = c.before.before.before in
     let start = at_join.before.before in
-    told-ends start.args.lookahead start.args.alone _ _ at_join.before.end.ensures.is at_join.join.ensures.is c.if1.true
+    told_ends start.args.lookahead start.args.alone _ _ at_join.before.end.ensures.is at_join.join.ensures.is c.if1.true
 
 terminal-requires : tie.Need-terminal-requires
 terminal-requires c κs = search rules

@@ -1,7 +1,7 @@
 -- By whether the rule is one of the nonterminal.
 use mathlib.Core.Path.{sym}
-use Rattle.claims.proofs.Claimants.{claimant-other}
-use Rattle.gaps_text_promises.proofs.Lines.{claimant-head}
+use Rattle.claims.proofs.Claimants.{claimant_other}
+use Rattle.gaps_text_promises.proofs.Lines.{claimant_head}
 use borrow.Author.Rules.{rules}
 use Rattle.claimants_text.proofs.claims_element.Statement.{statement}
 use Rattle.claimants_text.proofs.claims_element.Tie as tie
@@ -19,10 +19,10 @@ contains-requires : tie.Need-contains-requires
 contains-requires c κs = search rules
 
 returns : tie.Need-returns
-returns c = claimant-head _ _ _ _ _ c.before.if1.true c.contains.ensures
+returns c = claimant_head _ _ _ _ _ c.before.if1.true c.contains.ensures
 
 returns-2 : tie.Need-returns-2
-returns-2 c = sym (claimant-other _ _ _ _ _ (λ e. c.if1.false (sym e)))
+returns-2 c = sym (claimant_other _ _ _ _ _ (λ e. c.if1.false (sym e)))
 
 pub claims-element-spec : {M : Type 1} → statement M
 claims-element-spec =

@@ -1,9 +1,9 @@
 -- The loop keeps the count of the rules passed.
 use Prim.Native.Nat.{◌-◌}
 use native.Mathlib.Omega.{arith}
-use Rattle.base.proofs.Quantified.{one-le}
-use Rattle.claims.specs.contracts.Claims.{claimant}
-use Rattle.gaps_text_promises.proofs.Lines.{Counting, counting-start, counting-next, counting-end}
+use Rattle.base.proofs.Quantified.{one_le}
+use Rattle.claims.specs.inner.Claims.{claimant}
+use Rattle.gaps_text_promises.proofs.Lines.{Counting, counting_start, counting_next, counting_end}
 use Rattle.claimants_text.proofs.count_claimants.Statement.{statement}
 use Rattle.claimants_text.proofs.count_claimants.Tie as tie
 
@@ -14,7 +14,7 @@ abbrev decreases-loop : tie.decreases-loop
 decreases-loop heads sets rules nonterminal element n₀ rule₀ n rule = rules - rule
 
 loop-holds : tie.Need-loop-init invariant-loop decreases-loop
-loop-holds c = counting-start _ _
+loop-holds c = counting_start _ _
 
 claims-element-requires : tie.Need-claims-element-requires invariant-loop decreases-loop
 claims-element-requires c κs = omega arith
@@ -29,7 +29,7 @@ add-n c =
     let at_test = at-claimed.before in
     omega (
       arith,
-      one-le at-claimed.claims-element.result,
+      one_le at-claimed.claims-element.result,
       at_one.one.ensures,
       at_test.before.loop.invariant.few,
       at_test.loop-test.true,
@@ -43,10 +43,10 @@ loop-less : tie.Need-loop-smaller invariant-loop decreases-loop
 loop-less c = omega arith
 
 loop-again : tie.Need-loop-preserved invariant-loop decreases-loop
-loop-again c = counting-next c.before.before.before.loop.invariant c.before.before.loop-test.true c.before.claims-element.ensures c.one.ensures
+loop-again c = counting_next c.before.before.before.loop.invariant c.before.before.loop-test.true c.before.claims-element.ensures c.one.ensures
 
 returns : tie.Need-returns invariant-loop decreases-loop
-returns c = counting-end c.before.loop.invariant c.loop-test.false
+returns c = counting_end c.before.loop.invariant c.loop-test.false
 
 pub count-claimants-spec : {M : Type 1} → statement M
 count-claimants-spec =

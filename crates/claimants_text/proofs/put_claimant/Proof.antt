@@ -1,5 +1,5 @@
 -- A rule that claims the entry is put behind a space.
-use Rattle.gaps_text_promises.proofs.Lines.{claimant-put, nobody-put}
+use Rattle.gaps_text_promises.proofs.Lines.{claimant_put, nobody_put}
 use borrow.Author.Rules.{rules}
 use Rattle.claimants_text.proofs.put_claimant.Statement.{statement}
 use Rattle.claimants_text.proofs.put_claimant.Tie as tie
@@ -17,10 +17,10 @@ returns : tie.Need-returns
 returns c =
     let at-put-labelled = c.before.before in
     let at-if1 = at-put-labelled.before.before.before in
-    claimant-put _ at-if1.if1.true at-put-labelled.put-labelled.ensures
+    claimant_put _ at-if1.if1.true at-put-labelled.put-labelled.ensures
 
 returns-2 : tie.Need-returns-2
-returns-2 c = nobody-put _ _ _ c.if1.false
+returns-2 c = nobody_put _ _ _ c.if1.false
 
 pub put-claimant-spec : {M : Type 1} → statement M
 put-claimant-spec =

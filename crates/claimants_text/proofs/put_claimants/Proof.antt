@@ -1,5 +1,5 @@
 -- A dash where no rule claims the entry.
-use Rattle.gaps_text_promises.proofs.Lines.{dash-put, numbers-put}
+use Rattle.gaps_text_promises.proofs.Lines.{dash_put, numbers_put}
 use borrow.Author.Rules.{rules}
 use Rattle.claimants_text.proofs.put_claimants.Statement.{statement}
 use Rattle.claimants_text.proofs.put_claimants.Tie as tie
@@ -20,7 +20,7 @@ returns : tie.Need-returns
 returns c =
     let at-put = c.before.before in
     let at-if = at-put.before.before.before in
-    dash-put _ _ at-if.before.before.requires.1 at-if.if1.true at-put.put-bytes.ensures
+    dash_put _ _ at-if.before.before.requires.1 at-if.if1.true at-put.put-bytes.ensures
 
 same-length-2 : tie.Need-same-length-2
 same-length-2 c = search rules
@@ -29,7 +29,7 @@ returns-2 : tie.Need-returns-2
 returns-2 c =
     let at-put = c.before.before in
     let at-if = at-put.before.before in
-    numbers-put _ _ at-if.before.before.requires.1 at-if.if1.false at-put.put-numbers.ensures
+    numbers_put _ _ at-if.before.before.requires.1 at-if.if1.false at-put.put-numbers.ensures
 
 pub put-claimants-spec : {M : Type 1} → statement M
 put-claimants-spec =

@@ -1,6 +1,6 @@
 -- The parts of the line are put one behind the other.
 use Rattle.text.proofs.Writing.{put_then}
-use Rattle.gaps_text_promises.proofs.Lines.{line-put, column-line, no-line-put}
+use Rattle.gaps_text_promises.proofs.Lines.{line_put, column_line, no_line_put}
 use borrow.Author.Rules.{rules}
 use Rattle.claimants_text.proofs.put_entry.Statement.{statement}
 use Rattle.claimants_text.proofs.put_entry.Tie as tie
@@ -18,8 +18,8 @@ returns : tie.Need-returns
 returns c =
     let at_count = c.before in
     let at-element = at_count.before in
-    column-line _ _ _ _ _ at-element.before.at-most-all.ensures at-element.element.ensures
-    (no-line-put _ _ _ _ _ _ at_count.count-claimants.ensures c.if1.true)
+    column_line _ _ _ _ _ at-element.before.at-most-all.ensures at-element.element.ensures
+    (no_line_put _ _ _ _ _ _ at_count.count-claimants.ensures c.if1.true)
 
 put-place-requires : tie.Need-put-place-requires
 put-place-requires c κs = search rules
@@ -44,8 +44,8 @@ returns-2 c =
     let at-if = first.before.before in
     let at_count = at-if.before in
     let at-element = at_count.before in
-    column-line _ _ _ _ _ at-element.before.at-most-all.ensures at-element.element.ensures
-    (line-put _ _ at_count.count-claimants.ensures _ _ at-if.if1.false
+    column_line _ _ _ _ _ at-element.before.at-most-all.ensures at-element.element.ensures
+    (line_put _ _ at_count.count-claimants.ensures _ _ at-if.if1.false
     (put_then (put_then first.put-place.ensures second.put-claimants.ensures) end.put-bytes.ensures))
 
 pub put-entry-spec : {M : Type 1} → statement M

@@ -2,7 +2,7 @@
 use mathlib.Core.Path.{refl}
 use Prim.Native.Nat.{◌-◌}
 use native.Mathlib.Omega.{arith}
-use Rattle.claims.proofs.KeptClaims.{Keeping, keeping_start, few-rules, start-inside, head_few, keeping-next, keeping-end}
+use Rattle.claims.proofs.KeptClaims.{Keeping, keeping_start, few_rules_lem, start_inside, head_few, keeping_next, keeping_end}
 use Rattle.claims.proofs.keep_claims.Statement.{statement}
 use Rattle.claims.proofs.keep_claims.Tie as tie
 
@@ -16,16 +16,16 @@ loop-holds : tie.Need-loop-init invariant-loop decreases-loop
 loop-holds c = let start = c.before in keeping_start start.args.lookahead start.args.words.now start.requires.1 start.requires.2
 
 mul-decode : tie.Need-overflow-mul-decode invariant-loop decreases-loop
-mul-decode c = omega (arith, c.if1.true, few-rules c.before.before.before.before.requires.0)
+mul-decode c = omega (arith, c.if1.true, few_rules_lem c.before.before.before.before.requires.0)
 
 element-copy-out-decode : tie.Need-element-copy-out-decode invariant-loop decreases-loop
-element-copy-out-decode c = omega (arith, c.if1.true, few-rules c.before.before.before.before.requires.0)
+element-copy-out-decode c = omega (arith, c.if1.true, few_rules_lem c.before.before.before.before.requires.0)
 
 mul-decode-2 : tie.Need-overflow-mul-decode-2 invariant-loop decreases-loop
-mul-decode-2 c = let test = c.before in omega (arith, start-inside test.before.before.before.before.requires.0 test.if1.true)
+mul-decode-2 c = let test = c.before in omega (arith, start_inside test.before.before.before.before.requires.0 test.if1.true)
 
 shared-slice-read-decode : tie.Need-shared-slice-read-decode invariant-loop decreases-loop
-shared-slice-read-decode c = let test = c.before.before in omega (arith, start-inside test.before.before.before.before.requires.0 test.if1.true)
+shared-slice-read-decode c = let test = c.before.before in omega (arith, start_inside test.before.before.before.before.requires.0 test.if1.true)
 
 decode-requires : tie.Need-decode-requires invariant-loop decreases-loop
 decode-requires c κs = tt
@@ -34,11 +34,11 @@ head-of-requires : tie.Need-head-of-requires invariant-loop decreases-loop
 head-of-requires c κs = tt
 
 mul-t15 : tie.Need-overflow-mul-t15 invariant-loop decreases-loop
-mul-t15 c = let test = c.before.before.before.before in omega (arith, test.if1.true, few-rules test.before.before.before.before.requires.0)
+mul-t15 c = let test = c.before.before.before.before in omega (arith, test.if1.true, few_rules_lem test.before.before.before.before.requires.0)
 
 element-copy-out-t24 : tie.Need-element-copy-out-t24 invariant-loop decreases-loop
 element-copy-out-t24 c =
-    let test = c.before.before.before.before in omega (arith, test.if1.true, few-rules test.before.before.before.before.requires.0)
+    let test = c.before.before.before.before in omega (arith, test.if1.true, few_rules_lem test.before.before.before.before.requires.0)
 
 cast-t18 : tie.Need-overflow-cast-t18 invariant-loop decreases-loop
 cast-t18 c =
@@ -71,7 +71,7 @@ cast-heads c =
 element-write-heads : tie.Need-element-write-heads invariant-loop decreases-loop
 element-write-heads c =
     let test = c.before.before.before.before.before.before in
-    omega (arith, test.if1.true, few-rules test.before.before.before.before.requires.0)
+    omega (arith, test.if1.true, few_rules_lem test.before.before.before.before.requires.0)
 
 concat-requires : tie.Need-concat-requires invariant-loop decreases-loop
 concat-requires c κs = tt
@@ -79,12 +79,12 @@ concat-requires c κs = tt
 mul-sets : tie.Need-overflow-mul-sets invariant-loop decreases-loop
 mul-sets c =
     let test = c.before.before.before.before.before.before.before in
-    omega (arith, test.if1.true, few-rules test.before.before.before.before.requires.0)
+    omega (arith, test.if1.true, few_rules_lem test.before.before.before.before.requires.0)
 
 element-write-sets : tie.Need-element-write-sets invariant-loop decreases-loop
 element-write-sets c =
     let test = c.before.before.before.before.before.before.before in
-    omega (arith, test.if1.true, few-rules test.before.before.before.before.requires.0)
+    omega (arith, test.if1.true, few_rules_lem test.before.before.before.before.requires.0)
 
 add-rule : tie.Need-overflow-add-rule invariant-loop decreases-loop
 add-rule c =
@@ -102,13 +102,13 @@ loop-again c =
     let decode = head.before in
     let test = decode.before.before.before in
     let loop = test.before.before in
-    keeping-next loop.before.before.requires.0 test.if1.true decode.decode.ensures head.head_of.ensures
+    keeping_next loop.before.before.requires.0 test.if1.true decode.decode.ensures head.head_of.ensures
     loop.loop.invariant c.concat.ensures.is refl refl
 
 returns : tie.Need-returns invariant-loop decreases-loop
 returns c =
     let loop = c.before.before in
-    keeping-end loop.before.before.requires.0 loop.loop.invariant c.if1.false
+    keeping_end loop.before.before.requires.0 loop.loop.invariant c.if1.false
 
 pub keep-claims-spec : {M : Type 1} → statement M
 keep-claims-spec =

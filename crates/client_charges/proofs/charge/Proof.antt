@@ -1,5 +1,5 @@
 -- Counted in the client's own record, or nowhere.
-use Rattle.client_records.proofs.Charging.{charged-nobody, charged-client}
+use Rattle.client_records.proofs.Charging.{charged_nobody, charged_client}
 use borrow.Author.Rules.{rules}
 use Rattle.client_charges.proofs.charge.Statement.{statement}
 use Rattle.client_charges.proofs.charge.Tie as tie
@@ -7,7 +7,7 @@ use Rattle.client_charges.proofs.charge.Tie as tie
 returns : tie.Need-returns
 returns c =
     let given = c.before.args in
-    charged-nobody given.client given.answer given.t1 c.if1.true
+    charged_nobody given.client given.answer given.t1 c.if1.true
 
 mul-own : tie.Need-overflow-mul-own
 mul-own c = search rules
@@ -28,7 +28,7 @@ returns-2 : tie.Need-returns-2
 returns-2 c =
     let at_test = c.before.before in
     let given = at_test.before.args in
-    charged-client given.client given.answer given.t1 at_test.if1.false c.after.ensures
+    charged_client given.client given.answer given.t1 at_test.if1.false c.after.ensures
 
 pub charge-spec : {M : Type 1} → statement M
 charge-spec =

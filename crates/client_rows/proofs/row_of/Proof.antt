@@ -5,8 +5,8 @@ use native.Mathlib.Omega.{arith}
 use borrow.Author.Rules.{rules}
 use lib.ListN.{length}
 use Rattle.client_records.specs.Usages.{clients}
-use Rattle.embed_promises.specs.contracts.Records.{RecordsWritten}
-use Rattle.embed_promises.proofs.RecordRows.{nothing_written, one_written, all-written}
+use Rattle.embed_promises.specs.inner.Records.{RecordsWritten}
+use Rattle.embed_promises.proofs.RecordRows.{nothing_written, one_written, all_written}
 use Rattle.client_rows.proofs.row_of.Statement.{statement}
 use Rattle.client_rows.proofs.row_of.Tie as tie
 
@@ -74,7 +74,7 @@ returns : tie.Need-returns invariant-loop decreases-loop
 returns c =
     let start = c.before.before in
     let long : length start.args.t1 ≡ clients = search rules in
-    all-written c.before.loop.invariant (omega arith) long
+    all_written c.before.loop.invariant (omega arith) long
 
 pub row-of-spec : {M : Type 1} → statement M
 row-of-spec =

@@ -3,7 +3,7 @@ use mathlib.Core.Path.{◌≡◌}
 use lib.ListN.{length}
 use Rattle.event.specs.Events.{input_of}
 use Rattle.client_records.specs.Usages.{clients}
-use Rattle.clients_promises.proofs.Serving.{turned-away-served, let-through-served}
+use Rattle.clients_promises.proofs.Serving.{turned_away_served, let_through_served}
 use borrow.Author.Rules.{rules}
 use Rattle.clients.proofs.judge_for.Statement.{statement}
 use Rattle.clients.proofs.judge_for.Tie as tie
@@ -24,7 +24,7 @@ returns c =
     let start = at-allowance.before.before.before.before.before in
     let given = start.args in
     let eight : length given.usages ≡ clients = start.well-formed.1.1.1.1.1.1.1.0.1.0.1 in
-    turned-away-served given.client given.share given.limit given.usages eight given.words.now (input_of given.events.now)
+    turned_away_served given.client given.share given.limit given.usages eight given.words.now (input_of given.events.now)
     given.table.now given.memo.now at-allowance.allowance.ensures at-match.match.keys2 c.charge.ensures
 
 judge-requires : tie.Need-judge-requires
@@ -47,7 +47,7 @@ returns-2 c =
     let start = at-allowance.before.before.before.before.before in
     let given = start.args in
     let eight : length given.usages ≡ clients = start.well-formed.1.1.1.1.1.1.1.0.1.0.1 in
-    let-through-served given.client given.share given.limit given.usages eight given.words.now (input_of given.events.now)
+    let_through_served given.client given.share given.limit given.usages eight given.words.now (input_of given.events.now)
     given.table.now given.memo.now at-allowance.allowance.ensures at-match.match.keys1 at-judge.judge.ensures c.charge2.ensures
 
 pub judge-for-spec : {M : Type 1} → statement M

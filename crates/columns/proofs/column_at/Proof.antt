@@ -4,9 +4,9 @@ use Prim.Native.Nat.{◌+◌}
 use native.Mathlib.Omega.{arith}
 use lib.ListN.{get_or}
 use Rattle.event.specs.Events.{input_of}
-use Rattle.event.proofs.Inputs.{input-length, input-at}
-use Rattle.columns.specs.contracts.Columns.{columnBefore, columnLast}
-use Rattle.columns.proofs.Columns.{column-inner, column-last, column-end}
+use Rattle.event.proofs.Inputs.{input_length, input_at}
+use Rattle.columns.specs.inner.Columns.{column_before, column_last}
+use Rattle.columns.proofs.Columns.{column_inner, column_last_lem, column_end_lem}
 use borrow.Author.Rules.{rules}
 use Rattle.columns.proofs.column_at.Statement.{statement}
 use Rattle.columns.proofs.column_at.Tie as tie
@@ -19,9 +19,9 @@ returns c =
     let past = c.before in
     let start = past.before.before in
     let events = start.args.events.now in
-    c.column-end.ensures
-    ∙ sym (column-end start.args.lookahead start.args.terminals (input_of events) start.args.place
-    (omega (arith, past.if1.true, input-length events)))
+    c.column_end.ensures
+    ∙ sym (column_end_lem start.args.lookahead start.args.terminals (input_of events) start.args.place
+    (omega (arith, past.if1.true, input_length events)))
 
 shared-slice-read-event : tie.Need-shared-slice-read-event
 shared-slice-read-event c = search rules
@@ -42,10 +42,10 @@ returns-2 c =
     let start = read.before.before.before.before in
     let events = start.args.events.now in
     let place = start.args.place in
-    let token : read.terminal-of.result ≡ get_or (input_of events) place 0 = read.terminal-of.ensures ∙ sym (input-at events place) in
-    let long = input-length events in
-    c.column-last.ensures ∙ ap (columnLast start.args.lookahead) token
-    ∙ sym (column-last start.args.lookahead start.args.terminals (input_of events) place (omega (arith, read.before.before.if1.false))
+    let token : read.terminal-of.result ≡ get_or (input_of events) place 0 = read.terminal-of.ensures ∙ sym (input_at events place) in
+    let long = input_length events in
+    c.column_last.ensures ∙ ap (column_last start.args.lookahead) token
+    ∙ sym (column_last_lem start.args.lookahead start.args.terminals (input_of events) place (omega (arith, read.before.before.if1.false))
     (omega (arith, alone.if2.true)))
 
 add-next : tie.Need-overflow-add-next
@@ -68,11 +68,11 @@ returns-3 c =
     let start = read.before.before.before.before in
     let events = start.args.events.now in
     let place = start.args.place in
-    let token : read.terminal-of.result ≡ get_or (input_of events) place 0 = read.terminal-of.ensures ∙ sym (input-at events place) in
-    let next : at_next.terminal-of2.result ≡ get_or (input_of events) (place + 1) 0 = at_next.terminal-of2.ensures ∙ sym (input-at events (place + 1)) in
-    let long = input-length events in
-    c.column-before.ensures ∙ ap₂ (columnBefore start.args.lookahead) token next
-    ∙ sym (column-inner start.args.lookahead start.args.terminals (input_of events) place (omega (arith, going.if2.false)))
+    let token : read.terminal-of.result ≡ get_or (input_of events) place 0 = read.terminal-of.ensures ∙ sym (input_at events place) in
+    let next : at_next.terminal-of2.result ≡ get_or (input_of events) (place + 1) 0 = at_next.terminal-of2.ensures ∙ sym (input_at events (place + 1)) in
+    let long = input_length events in
+    c.column-before.ensures ∙ ap₂ (column_before start.args.lookahead) token next
+    ∙ sym (column_inner start.args.lookahead start.args.terminals (input_of events) place (omega (arith, going.if2.false)))
 
 pub column-at-spec : {M : Type 1} → statement M
 column-at-spec =

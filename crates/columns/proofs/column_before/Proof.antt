@@ -1,6 +1,6 @@
 -- By the lookahead.
 use borrow.Author.Rules.{rules}
-use Rattle.columns.specs.contracts.Columns.{columnBefore}
+use Rattle.columns.specs.inner.Columns.{column_before}
 use Rattle.columns.proofs.column_before.Statement.{statement}
 use Rattle.columns.proofs.column_before.Tie as tie
 
@@ -20,11 +20,11 @@ add-result-2 : tie.Need-overflow-add-result-2
 add-result-2 c = search rules
 
 returns : tie.Need-returns
-unfolding columnBefore
+unfolding column_before
 returns c = rw c.enum_told.given.1
 
 returns-2 : tie.Need-returns-2
-unfolding columnBefore
+unfolding column_before
 returns-2 c = rw c.enum-told2.given.1
 
 pub column-before-spec : {M : Type 1} → statement M

@@ -1,6 +1,6 @@
 -- By the lookahead.
 use borrow.Author.Rules.{rules}
-use Rattle.columns.specs.contracts.Columns.{columnLast}
+use Rattle.columns.specs.inner.Columns.{column_last}
 use Rattle.columns.proofs.column_last.Statement.{statement}
 use Rattle.columns.proofs.column_last.Tie as tie
 
@@ -14,11 +14,11 @@ add-result : tie.Need-overflow-add-result
 add-result c = search rules
 
 returns : tie.Need-returns
-unfolding columnLast
+unfolding column_last
 returns c = rw c.enum_told.given.1
 
 returns-2 : tie.Need-returns-2
-unfolding columnLast
+unfolding column_last
 returns-2 c = rw c.enum-told2.given.1
 
 pub column-last-spec : {M : Type 1} → statement M

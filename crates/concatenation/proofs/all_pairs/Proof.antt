@@ -14,7 +14,7 @@ sub-result : tie.Need-overflow-sub-result
 sub-result c = search rules
 
 returns : tie.Need-returns
-returns c = cases.all-long-two c.before.args.set.bits
+returns c = cases.all_long_two c.before.args.set.bits
 
 pub all-pairs-spec : {M : Type 1} → statement M
 all-pairs-spec = tie.close (tie.spec cast-result shl-result sub-result returns)

@@ -21,14 +21,14 @@ returns : tie.Need-returns
 returns c =
     let tested = c.before in
     let args = tested.before.before.args in
-    cases.if-passed (has args.set.bits (nothing Two)) args.other.bits
+    cases.if_passed (has args.set.bits (nothing Two)) args.other.bits
     (rw tested.before.nothing.ensures at (sym tested.contains.ensures ∙ c.if1.true))
 
 returns-2 : tie.Need-returns-2
 returns-2 c =
     let tested = c.before.before in
     let args = tested.before.before.args in
-    cases.if-failed (has args.set.bits (nothing Two)) (has args.other.bits)
+    cases.if_failed (has args.set.bits (nothing Two)) (has args.other.bits)
     (rw tested.before.nothing.ensures at (sym tested.contains.ensures ∙ c.before.if1.false)) c.empty.ensures
 
 pub before-spec : {M : Type 1} → statement M

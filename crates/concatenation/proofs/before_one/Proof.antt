@@ -2,7 +2,7 @@
 use mathlib.Core.Path.{sym, ◌∙◌}
 use borrow.Author.Rules.{rules}
 use Rattle.lookahead.specs.declared.Lookahead.TheVariants.{One}
-use Rattle.lookahead.specs.contracts.Operations.{terminal}
+use Rattle.lookahead.specs.inner.Operations.{terminal}
 use Rattle.concatenation.proofs.Cases as cases
 use Rattle.concatenation.proofs.Parts as parts
 use Rattle.concatenation.proofs.before_one.Statement.{statement}
@@ -21,7 +21,7 @@ returns : tie.Need-returns
 returns c =
     let at = c.before.before in
     let args = at.before.args in
-    parts.concat-empty One (terminal One args.number) args.other.bits at.strings.ensures (sym c.before.is-empty.ensures ∙ c.if1.true)
+    parts.concat_empty One (terminal One args.number) args.other.bits at.strings.ensures (sym c.before.is_empty.ensures ∙ c.if1.true)
 
 returns-2 : tie.Need-returns-2
 returns-2 c =
@@ -29,8 +29,8 @@ returns-2 c =
     let second = tested.before in
     let args = second.before.args in
     let made = c.terminal.ensures in
-    parts.concat-long One (terminal One args.number) args.other.bits (cases.terminal-whole made) second.strings.ensures
-    (sym tested.is-empty.ensures ∙ c.before.if1.false) (cases.terminal-long made)
+    parts.concat_long One (terminal One args.number) args.other.bits (cases.terminal_whole made) second.strings.ensures
+    (sym tested.is_empty.ensures ∙ c.before.if1.false) (cases.terminal_long made)
 
 pub before-one-spec : {M : Type 1} → statement M
 before-one-spec = tie.close (tie.spec strings-requires is-empty-requires terminal-requires returns returns-2)

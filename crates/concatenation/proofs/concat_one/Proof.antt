@@ -23,7 +23,7 @@ returns : tie.Need-returns
 returns c =
     let at = c.before.before in
     let args = at.before.before.args in
-    parts.concat-empty One args.set.bits args.other.bits at.strings2.ensures (sym c.before.is-empty.ensures ∙ c.if1.true)
+    parts.concat_empty One args.set.bits args.other.bits at.strings2.ensures (sym c.before.is_empty.ensures ∙ c.if1.true)
 
 contains-requires : tie.Need-contains-requires
 contains-requires c κs = search rules
@@ -44,9 +44,9 @@ returns-2 c =
     let second = empty.before.before in
     let first = second.before in
     let args = first.before.args in
-    parts.concat-one One args.set.bits args.other.bits first.strings.ensures second.strings2.ensures
-    (sym empty.before.is-empty.ensures ∙ empty.if1.false) long.long.ensures
-    (cases.if-passed (has first.strings.result.bits 24) second.strings2.result.bits (sym tested.contains.ensures ∙ long.before.if2.true))
+    parts.concat_one One args.set.bits args.other.bits first.strings.ensures second.strings2.ensures
+    (sym empty.before.is_empty.ensures ∙ empty.if1.false) long.long.ensures
+    (cases.if_passed (has first.strings.result.bits 24) second.strings2.result.bits (sym tested.contains.ensures ∙ long.before.if2.true))
     refl c.join.ensures
 
 returns-3 : tie.Need-returns-3
@@ -56,9 +56,9 @@ returns-3 c =
     let second = empty.before.before in
     let first = second.before in
     let args = first.before.args in
-    parts.concat-long One args.set.bits args.other.bits first.strings.ensures second.strings2.ensures
-    (sym empty.before.is-empty.ensures ∙ empty.if1.false)
-    (cases.all-long-one (rw first.strings.ensures (mod-lt args.set.bits (pow_pos 25))) (sym tested.contains.ensures ∙ c.if2.false))
+    parts.concat_long One args.set.bits args.other.bits first.strings.ensures second.strings2.ensures
+    (sym empty.before.is_empty.ensures ∙ empty.if1.false)
+    (cases.all_long_one (rw first.strings.ensures (mod-lt args.set.bits (pow_pos 25))) (sym tested.contains.ensures ∙ c.if2.false))
 
 pub concat-one-spec : {M : Type 1} → statement M
 concat-one-spec =

@@ -21,7 +21,7 @@ returns : tie.Need-returns
 returns c =
     let at = c.before.before in
     let args = at.before.before.args in
-    parts.concat-empty Two args.set.bits args.other.bits at.strings2.ensures (sym c.before.is-empty.ensures ∙ c.if1.true)
+    parts.concat_empty Two args.set.bits args.other.bits at.strings2.ensures (sym c.before.is_empty.ensures ∙ c.if1.true)
 
 all-pairs-requires : tie.Need-all-pairs-requires
 all-pairs-requires c κs = search rules
@@ -31,8 +31,8 @@ returns-2 c =
     let empty = c.before.before in
     let second = empty.before.before in
     let args = second.before.before.args in
-    parts.concat-long Two args.set.bits args.other.bits second.before.strings.ensures second.strings2.ensures
-    (sym empty.before.is-empty.ensures ∙ empty.if1.false) (c.before.all-pairs.ensures c.if2.true)
+    parts.concat_long Two args.set.bits args.other.bits second.before.strings.ensures second.strings2.ensures
+    (sym empty.before.is_empty.ensures ∙ empty.if1.false) (c.before.all-pairs.ensures c.if2.true)
 
 long-requires : tie.Need-long-requires
 long-requires c κs =
@@ -59,8 +59,8 @@ returns-3 c =
     let empty = long.before.before.before in
     let second = empty.before.before in
     let args = second.before.before.args in
-    parts.concat-two Two args.set.bits args.other.bits second.before.strings.ensures second.strings2.ensures
-    (sym empty.before.is-empty.ensures ∙ empty.if1.false)
+    parts.concat_two Two args.set.bits args.other.bits second.before.strings.ensures second.strings2.ensures
+    (sym empty.before.is_empty.ensures ∙ empty.if1.false)
     long.long.ensures at.before.before2.ensures refl at.join.ensures rows.rows.ensures c.join2.ensures
 
 pub concat-two-spec : {M : Type 1} → statement M

@@ -32,10 +32,10 @@ shl-t11 : tie.Need-overflow-shl-t11
 shl-t11 c = search rules
 
 returns : tie.Need-returns
-returns c = cases.long-one c.before.before.before.args.set.bits c.before.enum_told.given.1 c.before.before.before.requires
+returns c = cases.long_one c.before.before.before.args.set.bits c.before.enum_told.given.1 c.before.before.before.requires
 
 returns-2 : tie.Need-returns-2
-returns-2 c = cases.long-two c.before.before.before.args.set.bits c.before.enum-told2.given.1 c.before.before.before.requires
+returns-2 c = cases.long_two c.before.before.before.args.set.bits c.before.enum-told2.given.1 c.before.before.before.requires
 
 pub long-spec : {M : Type 1} → statement M
 long-spec = tie.close (tie.spec enum_told cast-t4 shl-t5 sub-t6 enum-told-2 cast-t8 shr-t9 cast-t10 shl-t11 returns returns-2)

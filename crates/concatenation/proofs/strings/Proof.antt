@@ -6,7 +6,7 @@ use Rattle.concatenation.proofs.Cases as cases
 use Rattle.lookahead.proofs.Digits.{shifted}
 use Rattle.concatenation.proofs.strings.Statement.{statement}
 use Rattle.concatenation.proofs.strings.Tie as tie
-use Rattle.lookahead.proofs.Bounds.{elements-fit}
+use Rattle.lookahead.proofs.Bounds.{elements_fit}
 
 element-count-requires : tie.Need-element-count-requires
 element-count-requires c κs = search rules
@@ -15,12 +15,12 @@ cast-t4 : tie.Need-overflow-cast-t4
 cast-t4 c = search rules
 
 shl-t5 : tie.Need-overflow-shl-t5
-shl-t5 c = omega (arith, elements-fit c.before.args.lookahead, c.element-count.ensures)
+shl-t5 c = omega (arith, elements_fit c.before.args.lookahead, c.element-count.ensures)
 
 sub-t6 : tie.Need-overflow-sub-t6
 sub-t6 c =
     let n = c.element-count.result in
-    omega (arith, shifted n (omega (arith, elements-fit c.before.args.lookahead, c.element-count.ensures)), pow_pos n)
+    omega (arith, shifted n (omega (arith, elements_fit c.before.args.lookahead, c.element-count.ensures)), pow_pos n)
 
 returns : tie.Need-returns
 returns c = cases.masked c.before.before.args.lookahead c.before.before.args.set.bits c.before.element-count.ensures

@@ -2,7 +2,7 @@
 use mathlib.Core.Path.{◌≡◌}
 use Prim.Native.Nat.{◌-◌, ◌≤◌}
 use native.Mathlib.Omega.{arith}
-use Rattle.descent_choices.specs.contracts.Choices.{choiceRows}
+use Rattle.descent_choices.specs.inner.Choices.{choice_rows}
 use Rattle.descent_choices.proofs.ChoiceRows.{rows_none, rows_all}
 use borrow.Author.Rules.{rules}
 use Rattle.descent_choices.proofs.choices_of.Statement.{statement}
@@ -10,7 +10,7 @@ use Rattle.descent_choices.proofs.choices_of.Tie as tie
 
 abbrev invariant-loop : tie.invariant-loop
 invariant-loop starts nonterminals columns entries tokens rows wide long choices₀ nonterminal₀ choices nonterminal =
-    (nonterminal ≤ rows) × (choices ≡ choiceRows starts wide entries long nonterminal)
+    (nonterminal ≤ rows) × (choices ≡ choice_rows starts wide entries long nonterminal)
 
 abbrev decreases-loop : tie.decreases-loop
 decreases-loop starts nonterminals columns entries tokens rows wide long choices₀ nonterminal₀ choices nonterminal =
@@ -38,7 +38,7 @@ fill-row-requires c κs =
     let sized = at-loop.before in
     record {
       named = omega (arith, turn.loop-test.true, sized.before.before.fitting.ensures);
-      fewColumns = omega (arith, sized.before.fitting2.ensures);
+      few_columns = omega (arith, sized.before.fitting2.ensures);
       short = omega (arith, sized.fitting3.ensures);
       before = at-loop.loop.invariant.1;
     }

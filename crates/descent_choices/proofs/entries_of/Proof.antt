@@ -4,8 +4,8 @@ use Prim.Native.Nat.{◌+◌}
 use native.Mathlib.Nat.{mul-le-mul}
 use native.Mathlib.Omega.{arith}
 use borrow.Author.Rules.{rules}
-use Rattle.grammar.specs.Limits.{maxNonterminals, maxTokens}
-use Rattle.descent_choices.specs.contracts.Choices.{memoEntries}
+use Rattle.grammar.specs.Limits.{max_nonterminals, max_tokens}
+use Rattle.descent_choices.specs.inner.Choices.{memo_entries}
 use Rattle.descent_choices.proofs.entries_of.Statement.{statement}
 use Rattle.descent_choices.proofs.entries_of.Tie as tie
 
@@ -23,12 +23,12 @@ add-result c = omega (arith, c.fitting2.ensures)
 
 mul-result : tie.Need-overflow-mul-result
 mul-result c =
-    let m = mul-le-mul {n₁ = c.before.fitting.result} {m₁ = c.fitting2.result + 1} {n₂ = maxNonterminals} {m₂ = maxTokens + 1}
+    let m = mul-le-mul {n₁ = c.before.fitting.result} {m₁ = c.fitting2.result + 1} {n₂ = max_nonterminals} {m₂ = max_tokens + 1}
     (omega (arith, c.before.fitting.ensures)) (omega (arith, c.fitting2.ensures)) in
     omega arith
 
 returns : tie.Need-returns
-unfolding memoEntries
+unfolding memo_entries
 returns c = rw (c.before.fitting.ensures, c.fitting2.ensures) refl
 
 pub entries-of-spec : {M : Type 1} → statement M

@@ -2,7 +2,7 @@
 use mathlib.Core.Path.{refl}
 use Prim.Native.Nat.{◌-◌, ◌≤◌}
 use native.Mathlib.Omega.{arith}
-use Rattle.descent_choices.proofs.ChoiceRows.{placed, before-long, Writing, writing-none, still-zero, writing_more, row-filled}
+use Rattle.descent_choices.proofs.ChoiceRows.{placed, before_long, Writing, writing_none, still_zero, writing_more, row_filled}
 use Rattle.descent_choices.proofs.fill_row.Statement.{statement}
 use Rattle.descent_choices.proofs.fill_row.Tie as tie
 
@@ -20,7 +20,7 @@ mul-to : tie.Need-overflow-mul-to invariant-loop decreases-loop
 mul-to c = let g = c.requires in omega (arith, g, placed g)
 
 loop-holds : tie.Need-loop-init invariant-loop decreases-loop
-loop-holds c = (omega arith, writing-none _ _ _ _ _)
+loop-holds c = (omega arith, writing_none _ _ _ _ _)
 
 add-write-choice : tie.Need-overflow-add-write-choice invariant-loop decreases-loop
 add-write-choice c = let g = c.before.before.before.requires in omega (arith, g, placed g)
@@ -37,7 +37,7 @@ write-choice-requires c κs =
     let at-loop = turn.before in
     let g = at-loop.before.requires in
     let taken = turn.loop-test.true in
-    (omega (arith, g, placed g, taken), still-zero g at-loop.loop.invariant.1 taken)
+    (omega (arith, g, placed g, taken), still_zero g at-loop.loop.invariant.1 taken)
 
 add-column : tie.Need-overflow-add-column invariant-loop decreases-loop
 add-column c =
@@ -55,7 +55,7 @@ loop-again c =
     let g = at-loop.before.requires in
     let taken = turn.loop-test.true in
     let w = at-loop.loop.invariant.1 in
-    (omega (arith, taken), rw c.write-choice.ensures (writing_more w (omega (arith, g, placed g, before-long g, w.long, taken)) refl))
+    (omega (arith, taken), rw c.write-choice.ensures (writing_more w (omega (arith, g, placed g, before_long g, w.long, taken)) refl))
 
 cast-choices : tie.Need-overflow-cast-choices invariant-loop decreases-loop
 cast-choices c = let g = c.before.before.requires in omega (arith, g, placed g)
@@ -90,7 +90,7 @@ element-write-choices-2 c = let g = c.before.before.requires in omega (arith, g,
 returns : tie.Need-returns invariant-loop decreases-loop
 returns c =
     let inv = c.before.loop.invariant in
-    row-filled c.before.before.requires inv.1 inv.0 c.loop-test.false
+    row_filled c.before.before.requires inv.1 inv.0 c.loop-test.false
 
 pub fill-row-spec : {M : Type 1} → statement M
 fill-row-spec =

@@ -4,7 +4,7 @@ use lib.ListN.{set}
 use lib.Seq.{set-get_or}
 use borrow.Author.Rules.{rules}
 use borrow.Author.Tests.{lt-ltb, le-ltb}
-use Rattle.descent_choices.specs.contracts.Choices.{first_word}
+use Rattle.descent_choices.specs.inner.Choices.{first_word}
 use Rattle.descent_choices.proofs.write_choice.Statement.{statement}
 use Rattle.descent_choices.proofs.write_choice.Tie as tie
 

@@ -5,7 +5,7 @@ use Prim.Native.Nat.{min}
 use native.Mathlib.Omega.{arith}
 use lib.ListN.{length, replicate, drop}
 use lib.Seq.{length-take-le}
-use Rattle.grammar.specs.Codes.{uncalledCode}
+use Rattle.grammar.specs.Codes.{uncalled_code}
 use borrow.Author.Rules.{rules}
 use Rattle.descent_preparation.proofs.prepare_input.Statement.{statement}
 use Rattle.descent_preparation.proofs.prepare_input.Tie as tie
@@ -59,7 +59,7 @@ returns c =
           rw (← sized.sizes-of.ensures)
           (fitted.fitting.ensures ∙ ap (λ n. min n (length given.memo.now)) needed.entries-of.ensures);
       blank = ap (λ part. part ++ drop fitted.fitting.result given.memo.now)
-          (cleared.clear.ensures ∙ ap (λ n. replicate n uncalledCode) fits);
+          (cleared.clear.ensures ∙ ap (λ n. replicate n uncalled_code) fits);
     }
 
 pub prepare-input-spec : {M : Type 1} → statement M

@@ -8,7 +8,7 @@ opening-requires : tie.Need-opening-requires
 opening-requires c κs = tt
 
 returns : tie.Need-returns
-returns c = rw (← c.before.conjunct-sign.ensures) c.opening.ensures
+returns c = rw (← c.before.conjunct_sign.ensures) c.opening.ensures
 
 pub first-agreement-spec : {M : Type 1} → statement M
 first-agreement-spec = tie.close (tie.spec conjunct-sign-requires opening-requires returns)

@@ -8,7 +8,7 @@ joined-requires : tie.Need-joined-requires
 joined-requires c κs = tt
 
 returns : tie.Need-returns
-returns c = rw (← c.before.conjunct-sign.ensures) c.joined.ensures
+returns c = rw (← c.before.conjunct_sign.ensures) c.joined.ensures
 
 pub joined-entry-spec : {M : Type 1} → statement M
 joined-entry-spec = tie.close (tie.spec conjunct-sign-requires joined-requires returns)

@@ -1,6 +1,6 @@
 use borrow.Author.Tests.{lt-ltb, le-ltb}
 use borrow.Author.Rules.{rules}
-use Rattle.descent_steps.specs.contracts.Steps.{word_at}
+use Rattle.descent_steps.specs.inner.Steps.{word_at}
 use Rattle.descent_steps.proofs.word_at.Statement.{statement}
 use Rattle.descent_steps.proofs.word_at.Tie as tie
 

@@ -3,20 +3,20 @@ use mathlib.Core.Path.{sym, ap, ap₂, ◌∙◌}
 use Prim.Native.Nat.{◌+◌, ◌-◌, ◌≤◌, min}
 use native.Mathlib.Omega.{arith}
 use lib.ListN.{length}
-use Rattle.grammar.specs.Limits.{maxPlaces}
+use Rattle.grammar.specs.Limits.{max_places}
 use Rattle.event.specs.Events.{input_of}
-use Rattle.event.proofs.Inputs.{input-length, input-at}
-use Rattle.columns.specs.contracts.Columns.{columnBefore, columnLast}
-use Rattle.columns.proofs.Columns.{column-inner, column-last, column-end}
-use Rattle.descent_arrays.specs.contracts.Arrays.{endMark}
-use Rattle.descent_tokens.specs.contracts.Tokens.{tokenWord}
-use Rattle.descent_tokens.proofs.TokenWords.{Written, written_none, written-more, written_all}
+use Rattle.event.proofs.Inputs.{input_length, input_at}
+use Rattle.columns.specs.inner.Columns.{column_before, column_last}
+use Rattle.columns.proofs.Columns.{column_inner, column_last_lem, column_end_lem}
+use Rattle.descent_arrays.specs.inner.Arrays.{end_mark}
+use Rattle.descent_tokens.specs.inner.Tokens.{token_word}
+use Rattle.descent_tokens.proofs.TokenWords.{Written, written_none, written_more, written_all}
 use Rattle.descent_tokens.proofs.tokens_of.Statement.{statement}
 use Rattle.descent_tokens.proofs.tokens_of.Tie as tie
 
 abbrev invariant-loop : tie.invariant-loop
 invariant-loop events lookahead terminals end tokens₀ count place₀ tokens place =
-    (place ≤ min count maxPlaces) × Written lookahead terminals (input_of events) place tokens
+    (place ≤ min count max_places) × Written lookahead terminals (input_of events) place tokens
 
 abbrev decreases-loop : tie.decreases-loop
 decreases-loop events lookahead terminals end tokens₀ count place₀ tokens place = count - place
@@ -39,8 +39,8 @@ loop-holds c =
     let k = start.args.lookahead in
     let n = start.args.terminals in
     let input = input_of start.args.events.now in
-    let column = c.before.before.column-end.ensures ∙ sym (column-end k n input (length input) (omega arith)) in
-    (omega arith, written_none k n input (c.before.word_of.ensures ∙ ap (λ x. tokenWord x endMark) column))
+    let column = c.before.before.column_end.ensures ∙ sym (column_end_lem k n input (length input) (omega arith)) in
+    (omega arith, written_none k n input (c.before.word_of.ensures ∙ ap (λ x. token_word x end_mark) column))
 
 add-loop : tie.Need-overflow-add-loop invariant-loop decreases-loop
 add-loop c = omega (arith, c.loop.invariant.0, c.before.fitting.ensures)
@@ -100,15 +100,15 @@ loop-again c =
     let place = at-loop.loop.place in
     let taken = turn.loop-test.true in
     let most = at-loop.before.fitting.ensures in
-    let token = at-token.terminal-of.ensures ∙ sym (input-at events place) in
-    let next = at_next.terminal-of2.ensures ∙ sym (input-at events (place + 1)) in
+    let token = at-token.terminal-of.ensures ∙ sym (input_at events place) in
+    let next = at_next.terminal-of2.ensures ∙ sym (input_at events (place + 1)) in
     let column =
     at-column.column-before.ensures
-    ∙ ap₂ (columnBefore k) token next
-    ∙ sym (column-inner k n (input_of events) place (omega (arith, taken, most, input-length events))) in (
+    ∙ ap₂ (column_before k) token next
+    ∙ sym (column_inner k n (input_of events) place (omega (arith, taken, most, input_length events))) in (
       omega (arith, taken),
-      written-more k n (input_of events) at-loop.loop.invariant.1 (omega (arith, taken, most)) (omega (arith, taken, most, input-length events))
-          (c.word-of2.ensures ∙ ap₂ tokenWord column token),
+      written_more k n (input_of events) at-loop.loop.invariant.1 (omega (arith, taken, most)) (omega (arith, taken, most, input_length events))
+          (c.word-of2.ensures ∙ ap₂ token_word column token),
     )
 
 fitting-requires-2 : tie.Need-fitting-requires-2 invariant-loop decreases-loop
@@ -121,7 +121,7 @@ returns c =
     let start = at-loop.before.before.before.before.before in
     let events = start.args.events.now in
     written_all start.args.lookahead start.args.terminals (input_of events)
-    (omega (arith, c.if1.true, fitted.fitting2.ensures, at-loop.loop.invariant.0, at-loop.before.fitting.ensures, input-length events))
+    (omega (arith, c.if1.true, fitted.fitting2.ensures, at-loop.loop.invariant.0, at-loop.before.fitting.ensures, input_length events))
     at-loop.loop.invariant.1
 
 shared-slice-read-last : tie.Need-shared-slice-read-last invariant-loop decreases-loop
@@ -164,15 +164,15 @@ returns-2 c =
     let left = going.if1.false in
     let most = at-loop.before.fitting.ensures in
     let fits = fitted.fitting2.ensures in
-    let long = input-length events in
-    let token = at-token.terminal-of3.ensures ∙ sym (input-at events place) in
+    let long = input_length events in
+    let token = at-token.terminal-of3.ensures ∙ sym (input_at events place) in
     let column =
-    at-column.column-last.ensures
-    ∙ ap (columnLast k) token
-    ∙ sym (column-last k n (input_of events) place (omega (arith, left, fits, most)) (omega (arith, left, fits, ended.loop-test.false, most))) in
+    at-column.column_last.ensures
+    ∙ ap (column_last k) token
+    ∙ sym (column_last_lem k n (input_of events) place (omega (arith, left, fits, most)) (omega (arith, left, fits, ended.loop-test.false, most))) in
     written_all k n (input_of events) (omega (arith, left, fits, ended.loop-test.false, most))
-    (written-more k n (input_of events) at-loop.loop.invariant.1 (omega (arith, left, fits)) (omega (arith, left, fits, most))
-    (c.word-of3.ensures ∙ ap₂ tokenWord column token))
+    (written_more k n (input_of events) at-loop.loop.invariant.1 (omega (arith, left, fits)) (omega (arith, left, fits, most))
+    (c.word-of3.ensures ∙ ap₂ token_word column token))
 
 pub tokens-of-spec : {M : Type 1} → statement M
 tokens-of-spec =

@@ -1,5 +1,5 @@
 -- The answer of the judge, packed, is what is reported.
-use Rattle.embed_promises.proofs.Exporting.{judge-exported}
+use Rattle.embed_promises.proofs.Exporting.{judge_exported}
 use borrow.Author.Rules.{rules}
 use Rattle.embed.proofs.vinegarspit_judge.Statement.{statement}
 use Rattle.embed.proofs.vinegarspit_judge.Tie as tie
@@ -19,7 +19,7 @@ same-length-2 c = search rules
 returns : tie.Need-returns
 returns c =
     let at-judge = c.before.before.before.before.before in
-    judge-exported at-judge.judge.ensures c.pack.ensures
+    judge_exported at-judge.judge.ensures c.pack.ensures
 
 pub vinegarspit-judge-spec : {M : Type 1} → statement M
 vinegarspit-judge-spec =

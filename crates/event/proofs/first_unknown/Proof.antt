@@ -4,14 +4,14 @@ use Prim.Native.Nat.{◌-◌}
 use native.Mathlib.Omega.{arith}
 use lib.ListN.{length, drop}
 use Rattle.event.specs.Events.{input_of}
-use Rattle.event.specs.Unknown.{unknownFrom}
-use Rattle.event.proofs.Known.{unknown-next, unknown-here, unknown-none}
+use Rattle.event.specs.Unknown.{unknown_from}
+use Rattle.event.proofs.Known.{unknown_next, unknown_here, unknown_none}
 use borrow.Author.Rules.{rules}
 use Rattle.event.proofs.first_unknown.Statement.{statement}
 use Rattle.event.proofs.first_unknown.Tie as tie
 
 abbrev invariant-loop : tie.invariant-loop
-invariant-loop events terminals at₀ at = unknownFrom terminals at (drop at (input_of events)) ≡ unknownFrom terminals 0 (input_of events)
+invariant-loop events terminals at₀ at = unknown_from terminals at (drop at (input_of events)) ≡ unknown_from terminals 0 (input_of events)
 
 abbrev decreases-loop : tie.decreases-loop
 decreases-loop events terminals at₀ at = length events - at
@@ -34,7 +34,7 @@ returns c =
     let turn = called.before.before in
     let at-loop = turn.before in
     let start = at-loop.before.before in
-    unknown-here start.args.terminals start.args.events.now at-loop.loop.at turn.loop-test.true
+    unknown_here start.args.terminals start.args.events.now at-loop.loop.at turn.loop-test.true
     (omega (arith, called.terminal-of.ensures)) ∙ at-loop.loop.invariant
 
 add_at : tie.Need-overflow-add-at invariant-loop decreases-loop
@@ -49,14 +49,14 @@ loop-again c =
     let turn = called.before.before in
     let at-loop = turn.before in
     let start = at-loop.before.before in
-    unknown-next start.args.terminals start.args.events.now at-loop.loop.at turn.loop-test.true
+    unknown_next start.args.terminals start.args.events.now at-loop.loop.at turn.loop-test.true
     (omega (arith, called.terminal-of.ensures)) ∙ at-loop.loop.invariant
 
 returns-2 : tie.Need-returns-2 invariant-loop decreases-loop
 returns-2 c =
     let at-loop = c.before in
     let start = at-loop.before.before in
-    unknown-none start.args.terminals start.args.events.now at-loop.loop.at c.loop-test.false ∙ at-loop.loop.invariant
+    unknown_none start.args.terminals start.args.events.now at-loop.loop.at c.loop-test.false ∙ at-loop.loop.invariant
 
 pub first-unknown-spec : {M : Type 1} → statement M
 first-unknown-spec =

@@ -4,13 +4,13 @@ use Prim.Native.Nat.{◌≤◌, ◌-◌, ◌/◌}
 use native.Mathlib.Omega.{arith}
 use lib.ListN.{length, take}
 use lib.Seq.{sets}
-use Rattle.file_words.specs.Words.{bytesOfWord, words_of}
-use Rattle.file_words.proofs.Fours.{too_long, cut_short, one_more, all-loaded}
+use Rattle.file_words.specs.Words.{bytes_of_word, words_of}
+use Rattle.file_words.proofs.Fours.{too_long, cut_short, one_more, all_loaded}
 use Rattle.file_words.proofs.load.Statement.{statement}
 use Rattle.file_words.proofs.load.Tie as tie
 
 abbrev invariant-loop : tie.invariant-loop
-invariant-loop bytes words₀ i₀ words i = (i ≤ length bytes / bytesOfWord) × (words ≡ sets words₀ 0 (take i (words_of bytes)))
+invariant-loop bytes words₀ i₀ words i = (i ≤ length bytes / bytes_of_word) × (words ≡ sets words₀ 0 (take i (words_of bytes)))
 
 abbrev decreases-loop : tie.decreases-loop
 decreases-loop bytes words₀ i₀ words i = length bytes - i
@@ -53,7 +53,7 @@ returns-3 c =
     let at-loop = c.before in
     let at-if2 = at-loop.before in
     let at-if1 = at-if2.before in
-    all-loaded _ _ at-if1.if1.false at-if2.if2.false _ at-loop.loop.invariant.0 c.loop-test.false at-loop.loop.invariant.1
+    all_loaded _ _ at-if1.if1.false at-if2.if2.false _ at-loop.loop.invariant.0 c.loop-test.false at-loop.loop.invariant.1
 
 pub load_spec : {M : Type 1} → statement M
 load_spec =

@@ -1,6 +1,6 @@
 -- An encoded grammar: by whether it is read without a fault.
 use mathlib.Core.Path.{sym, ◌∙◌}
-use Rattle.families.proofs.Findings.{firsts-faulty}
+use Rattle.families.proofs.Findings.{firsts_faulty}
 use Rattle.first_sets.proofs.analyze.Statement.{statement}
 use Rattle.first_sets.proofs.analyze.Tie as tie
 
@@ -24,7 +24,7 @@ analyze-grammar-requires c κs =
 returns : tie.Need-returns
 returns c =
     let at-outcome = c.before.before.before.before.before.before in
-    c.refused.ensures ∙ firsts-faulty _ _ at-outcome.before.before.admit.ensures at-outcome.outcome.given.1
+    c.refused.ensures ∙ firsts_faulty _ _ at-outcome.before.before.admit.ensures at-outcome.outcome.given.1
 
 returns-2 : tie.Need-returns-2
 returns-2 c = c.analyze-grammar.ensures

@@ -1,8 +1,8 @@
 -- A grammar that has been read: by whether a flaw is found.
 use mathlib.Core.Path.{◌∙◌}
-use Rattle.families.proofs.ByRules.{by-rules-zeros}
-use Rattle.families.proofs.Findings.{firsts-flawed, firsts-found}
-use Rattle.families.proofs.Flawed.{flaws-found}
+use Rattle.families.proofs.ByRules.{by_rules_zeros}
+use Rattle.families.proofs.Findings.{firsts_flawed, firsts_found}
+use Rattle.families.proofs.Flawed.{flaws_found}
 use Rattle.first_sets.proofs.analyze_grammar.Statement.{statement}
 use Rattle.first_sets.proofs.analyze_grammar.Tie as tie
 
@@ -12,7 +12,7 @@ rule-starts-requires c κs = tt
 first-sets-requires : tie.Need-first-sets-requires
 first-sets-requires c κs =
     let at-rule-starts = c.before.before.before.before in
-    (at-rule-starts.before.before.before.requires, at-rule-starts.rule-starts.ensures, by-rules-zeros _)
+    (at-rule-starts.before.before.before.requires, at-rule-starts.rule-starts.ensures, by_rules_zeros _)
 
 reached-requires : tie.Need-reached-requires
 reached-requires c κs =
@@ -41,8 +41,8 @@ returns c =
     let start = firsts.before.before.before.before.before.before.before.before in
     let lookahead = start.args.lookahead in
     let words = start.args.words.now in
-    let finding = flaws-found lookahead words start.requires firsts.first-sets.ensures.0 reached.reached.ensures found.finding-of.ensures in
-    c.refused.ensures ∙ firsts-flawed lookahead words finding at-finding.finding.given.1
+    let finding = flaws_found lookahead words start.requires firsts.first-sets.ensures.0 reached.reached.ensures found.finding-of.ensures in
+    c.refused.ensures ∙ firsts_flawed lookahead words finding at-finding.finding.given.1
 
 returns-2 : tie.Need-returns-2
 returns-2 c =
@@ -53,8 +53,8 @@ returns-2 c =
     let start = at-rule-starts.before.before.before in
     let lookahead = start.args.lookahead in
     let words = start.args.words.now in
-    let finding = flaws-found lookahead words start.requires firsts.first-sets.ensures.0 reached.reached.ensures found.finding-of.ensures in
-    firsts-found lookahead words finding c.enum_told.given.1 at-rule-starts.rule-starts.ensures firsts.first-sets.ensures.0
+    let finding = flaws_found lookahead words start.requires firsts.first-sets.ensures.0 reached.reached.ensures found.finding-of.ensures in
+    firsts_found lookahead words finding c.enum_told.given.1 at-rule-starts.rule-starts.ensures firsts.first-sets.ensures.0
     firsts.first-sets.ensures.1 reached.reached.ensures
 
 pub analyze-grammar-spec : {M : Type 1} → statement M

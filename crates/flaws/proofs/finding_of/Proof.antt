@@ -1,6 +1,6 @@
 -- By whether a nonterminal left-reaches itself, and then by whether a first set is empty.
 use native.Mathlib.Omega.{arith}
-use Rattle.families.proofs.Findings.{found-recursive, found-unproductive, found-flawless}
+use Rattle.families.proofs.Findings.{found_recursive, found_unproductive, found_flawless}
 use Rattle.flaws.proofs.finding_of.Statement.{statement}
 use Rattle.flaws.proofs.finding_of.Tie as tie
 
@@ -30,7 +30,7 @@ returns c =
     let second = c.before.before.before in
     let first = second.before in
     let start = first.before.before in
-    found-recursive start.args.sizes start.args.firsts.now start.args.reaches.now first.before.at_most.ensures first.lowest-with.ensures
+    found_recursive start.args.sizes start.args.firsts.now start.args.reaches.now first.before.at_most.ensures first.lowest-with.ensures
     second.lowest-with2.ensures c.before.recursive.given.1
 
 returns-2 : tie.Need-returns-2
@@ -38,7 +38,7 @@ returns-2 c =
     let second = c.before.before.before.before.before in
     let first = second.before in
     let start = first.before.before in
-    found-unproductive start.args.sizes start.args.firsts.now start.args.reaches.now
+    found_unproductive start.args.sizes start.args.firsts.now start.args.reaches.now
     first.before.at_most.ensures first.lowest-with.ensures
     second.lowest-with2.ensures c.before.before.before.enum_told.given.1 c.before.unproductive.given.1
 
@@ -47,7 +47,7 @@ returns-3 c =
     let second = c.before.before.before.before in
     let first = second.before in
     let start = first.before.before in
-    found-flawless start.args.sizes start.args.firsts.now start.args.reaches.now first.before.at_most.ensures first.lowest-with.ensures
+    found_flawless start.args.sizes start.args.firsts.now start.args.reaches.now first.before.at_most.ensures first.lowest-with.ensures
     second.lowest-with2.ensures c.before.before.enum_told.given.1 c.enum-told2.given.1
 
 pub finding-of-spec : {M : Type 1} → statement M

@@ -31,7 +31,7 @@ returns : tie.Need-returns
 returns c = rw c.before.before.enum_told.given.1 c.contains.ensures
 
 returns-2 : tie.Need-returns-2
-returns-2 c = rw c.before.before.enum-told2.given.1 c.is-empty.ensures
+returns-2 c = rw c.before.before.enum-told2.given.1 c.is_empty.ensures
 
 pub has-flaw-spec : {M : Type 1} → statement M
 has-flaw-spec =

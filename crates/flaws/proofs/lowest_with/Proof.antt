@@ -3,13 +3,13 @@ use mathlib.Core.Path.{sym, ◌∙◌}
 use Prim.Native.Nat.{◌-◌, ◌≤◌}
 use native.Mathlib.Omega.{arith}
 use Rattle.base.proofs.Quantified.{NoneBelow}
-use Rattle.families.specs.contracts.Flaws.{flawIn}
-use Rattle.families.proofs.LowestTold.{lowest-found, lowest-absent, none_more}
+use Rattle.families.specs.inner.Flaws.{flaw_in}
+use Rattle.families.proofs.LowestTold.{lowest_found, lowest_absent, none_more}
 use Rattle.flaws.proofs.lowest_with.Statement.{statement}
 use Rattle.flaws.proofs.lowest_with.Tie as tie
 
 abbrev invariant-loop : tie.invariant-loop
-invariant-loop flaw firsts reaches nonterminals nonterminal₀ nonterminal = (nonterminal ≤ nonterminals) × NoneBelow nonterminal (flawIn flaw firsts reaches)
+invariant-loop flaw firsts reaches nonterminals nonterminal₀ nonterminal = (nonterminal ≤ nonterminals) × NoneBelow nonterminal (flaw_in flaw firsts reaches)
 
 abbrev decreases-loop : tie.decreases-loop
 decreases-loop flaw firsts reaches nonterminals nonterminal₀ nonterminal = nonterminals - nonterminal
@@ -27,7 +27,7 @@ returns : tie.Need-returns invariant-loop decreases-loop
 returns c =
     let turn = c.before.before in
     let start = turn.before.before in
-    lowest-found (flawIn start.args.flaw start.args.firsts.now start.args.reaches.now) turn.loop-test.true turn.before.loop.invariant.1
+    lowest_found (flaw_in start.args.flaw start.args.firsts.now start.args.reaches.now) turn.loop-test.true turn.before.loop.invariant.1
     (sym c.before.has-flaw.ensures ∙ c.if1.true)
 
 add-nonterminal : tie.Need-overflow-add-nonterminal invariant-loop decreases-loop
@@ -41,14 +41,14 @@ loop-again c =
     let turn = c.before.before in
     let start = turn.before.before in (
       omega arith,
-      none_more _ (flawIn start.args.flaw start.args.firsts.now start.args.reaches.now) turn.before.loop.invariant.1
+      none_more _ (flaw_in start.args.flaw start.args.firsts.now start.args.reaches.now) turn.before.loop.invariant.1
           (sym c.before.has-flaw.ensures ∙ c.if1.false),
     )
 
 returns-2 : tie.Need-returns-2 invariant-loop decreases-loop
 returns-2 c =
     let start = c.before.before in
-    lowest-absent (flawIn start.args.flaw start.args.firsts.now start.args.reaches.now) c.loop-test.false c.before.loop.invariant.1
+    lowest_absent (flaw_in start.args.flaw start.args.firsts.now start.args.reaches.now) c.loop-test.false c.before.loop.invariant.1
 
 pub lowest-with-spec : {M : Type 1} → statement M
 lowest-with-spec =

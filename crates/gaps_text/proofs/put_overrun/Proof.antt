@@ -1,6 +1,6 @@
 -- A nonterminal that overruns is put on a line of its own.
 use Rattle.text.proofs.Writing.{put_then}
-use Rattle.gaps_text_promises.proofs.Lines.{overrun-put, no-overrun-put}
+use Rattle.gaps_text_promises.proofs.Lines.{overrun_put, no_overrun_put}
 use borrow.Author.Rules.{rules}
 use Rattle.gaps_text.proofs.put_overrun.Statement.{statement}
 use Rattle.gaps_text.proofs.put_overrun.Tie as tie
@@ -9,7 +9,7 @@ is-empty-requires : tie.Need-is-empty-requires
 is-empty-requires c κs = search rules
 
 returns : tie.Need-returns
-returns c = no-overrun-put _ _ _ _ c.before.is-empty.ensures c.if1.true
+returns c = no_overrun_put _ _ _ _ c.before.is_empty.ensures c.if1.true
 
 put-number-requires : tie.Need-put-number-requires
 put-number-requires c κs = search rules
@@ -28,7 +28,7 @@ returns-2 c =
     let last = c.before.before in
     let first = last.before.before.before.before.before in
     let at-if = first.before.before in
-    overrun-put _ _ at-if.before.is-empty.ensures at-if.if1.false (put_then first.put-number.ensures last.put-bytes.ensures)
+    overrun_put _ _ at-if.before.is_empty.ensures at-if.if1.false (put_then first.put-number.ensures last.put-bytes.ensures)
 
 pub put-overrun-spec : {M : Type 1} → statement M
 put-overrun-spec =

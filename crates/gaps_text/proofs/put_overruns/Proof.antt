@@ -3,21 +3,21 @@ use mathlib.Core.Path.{refl}
 use Prim.Native.Nat.{◌≤◌, ◌-◌}
 use native.Mathlib.Omega.{arith}
 use Rattle.text.specs.Writing.{Put, up_to}
-use Rattle.text.proofs.Writing.{put-length, put-none, put_next, put_last}
-use Rattle.gaps_text_promises.specs.contracts.Steps.{overrunLine, overrunsText, overrunsIn}
+use Rattle.text.proofs.Writing.{put_length, put_none, put_next, put_last}
+use Rattle.gaps_text_promises.specs.inner.Steps.{overrun_line, overruns_text, overruns_in}
 use Rattle.gaps_text.proofs.put_overruns.Statement.{statement}
 use Rattle.gaps_text.proofs.put_overruns.Tie as tie
 
 abbrev invariant-loop : tie.invariant-loop
 invariant-loop out₀ at overruns nonterminals next₀ nonterminal₀ out next nonterminal =
-    (nonterminal ≤ nonterminals) × Put out₀ at (up_to nonterminal (λ A. overrunLine (overrunsIn overruns A) A)) out next
+    (nonterminal ≤ nonterminals) × Put out₀ at (up_to nonterminal (λ A. overrun_line (overruns_in overruns A) A)) out next
 
 abbrev decreases-loop : tie.decreases-loop
 decreases-loop out₀ at overruns nonterminals next₀ nonterminal₀ out next nonterminal = nonterminals - nonterminal
 
 loop-holds : tie.Need-loop-init invariant-loop decreases-loop
 unfolding up_to
-loop-holds c = (omega arith, put-none _ _)
+loop-holds c = (omega arith, put_none _ _)
 
 cast-t9 : tie.Need-overflow-cast-t9 invariant-loop decreases-loop
 cast-t9 c = omega arith
@@ -44,10 +44,10 @@ loop-again c =
     (omega arith, put_next _ _ refl at-loop.loop.invariant.1 at-put.put-overrun.ensures)
 
 same_length : tie.Need-same-length invariant-loop decreases-loop
-same_length c = put-length c.before.loop.invariant.1
+same_length c = put_length c.before.loop.invariant.1
 
 returns : tie.Need-returns invariant-loop decreases-loop
-unfolding overrunsText
+unfolding overruns_text
 returns c = put_last _ c.before.loop.invariant.0 c.loop-test.false c.before.loop.invariant.1
 
 pub put-overruns-spec : {M : Type 1} → statement M

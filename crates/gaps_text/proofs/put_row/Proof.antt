@@ -2,16 +2,16 @@
 use mathlib.Core.Path.{refl}
 use Prim.Native.Nat.{◌≤◌, ◌-◌}
 use native.Mathlib.Omega.{arith}
-use Rattle.gaps_text_promises.specs.contracts.Steps.{claimantAt, entryLine, rowText}
-use Rattle.gaps_text_promises.proofs.Lines.{line-of-all}
+use Rattle.gaps_text_promises.specs.inner.Steps.{claimant_at, entry_line, row_text}
+use Rattle.gaps_text_promises.proofs.Lines.{line_of_all}
 use Rattle.text.specs.Writing.{Put, up_to}
-use Rattle.text.proofs.Writing.{put-length, put-none, put_next, put_last}
+use Rattle.text.proofs.Writing.{put_length, put_none, put_next, put_last}
 use Rattle.gaps_text.proofs.put_row.Statement.{statement}
 use Rattle.gaps_text.proofs.put_row.Tie as tie
 
 abbrev invariant-loop : tie.invariant-loop
 invariant-loop out₀ at heads sets sizes nonterminal columns next₀ column₀ out next column =
-    (column ≤ columns) × Put out₀ at (up_to column (λ c. entryLine sizes.rules (claimantAt heads sets sizes.terminals nonterminal c) nonterminal c)) out
+    (column ≤ columns) × Put out₀ at (up_to column (λ c. entry_line sizes.rules (claimant_at heads sets sizes.terminals nonterminal c) nonterminal c)) out
     next
 
 abbrev decreases-loop : tie.decreases-loop
@@ -22,7 +22,7 @@ add-columns c = omega arith
 
 loop-holds : tie.Need-loop-init invariant-loop decreases-loop
 unfolding up_to
-loop-holds c = (omega arith, put-none _ _)
+loop-holds c = (omega arith, put_none _ _)
 
 put-entry-requires : tie.Need-put-entry-requires invariant-loop decreases-loop
 put-entry-requires c κs = tt
@@ -38,13 +38,13 @@ loop-again c =
     let at-put = c.before.before in
     let at-loop = at-put.before.before.before in
     let start = at-loop.before.before.before in
-    (omega arith, put_next _ _ refl at-loop.loop.invariant.1 (line-of-all start.requires.0 at-put.put-entry.ensures))
+    (omega arith, put_next _ _ refl at-loop.loop.invariant.1 (line_of_all start.requires.0 at-put.put-entry.ensures))
 
 same_length : tie.Need-same-length invariant-loop decreases-loop
-same_length c = put-length c.before.loop.invariant.1
+same_length c = put_length c.before.loop.invariant.1
 
 returns : tie.Need-returns invariant-loop decreases-loop
-unfolding rowText
+unfolding row_text
 returns c = put_last _ c.before.loop.invariant.0 c.loop-test.false c.before.loop.invariant.1
 
 pub put-row-spec : {M : Type 1} → statement M

@@ -2,22 +2,22 @@
 use mathlib.Core.Path.{refl}
 use Prim.Native.Nat.{◌≤◌, ◌-◌}
 use native.Mathlib.Omega.{arith}
-use Rattle.gaps_text_promises.specs.contracts.Steps.{claimantAt, rowText}
+use Rattle.gaps_text_promises.specs.inner.Steps.{claimant_at, row_text}
 use Rattle.text.specs.Writing.{Put, up_to}
-use Rattle.text.proofs.Writing.{put-length, put-none, put_next, put_last}
+use Rattle.text.proofs.Writing.{put_length, put_none, put_next, put_last}
 use Rattle.gaps_text.proofs.put_rows.Statement.{statement}
 use Rattle.gaps_text.proofs.put_rows.Tie as tie
 
 abbrev invariant-loop : tie.invariant-loop
 invariant-loop out₀ at heads sets sizes nonterminals next₀ nonterminal₀ out next nonterminal =
-    (nonterminal ≤ nonterminals) × Put out₀ at (up_to nonterminal (rowText sizes (claimantAt heads sets sizes.terminals))) out next
+    (nonterminal ≤ nonterminals) × Put out₀ at (up_to nonterminal (row_text sizes (claimant_at heads sets sizes.terminals))) out next
 
 abbrev decreases-loop : tie.decreases-loop
 decreases-loop out₀ at heads sets sizes nonterminals next₀ nonterminal₀ out next nonterminal = nonterminals - nonterminal
 
 loop-holds : tie.Need-loop-init invariant-loop decreases-loop
 unfolding up_to
-loop-holds c = (omega arith, put-none _ _)
+loop-holds c = (omega arith, put_none _ _)
 
 cast-put-row : tie.Need-overflow-cast-put-row invariant-loop decreases-loop
 cast-put-row c = omega arith
@@ -38,7 +38,7 @@ loop-again c =
     (omega arith, put_next _ _ refl at-loop.loop.invariant.1 at-put.put-row.ensures)
 
 same_length : tie.Need-same-length invariant-loop decreases-loop
-same_length c = put-length c.before.loop.invariant.1
+same_length c = put_length c.before.loop.invariant.1
 
 returns : tie.Need-returns invariant-loop decreases-loop
 returns c = put_last _ c.before.loop.invariant.0 c.loop-test.false c.before.loop.invariant.1

@@ -4,7 +4,7 @@ use Rattle.answer.specs.declared.Error.TheVariants.{Heading as HeadingFault, Une
 use Rattle.grammar.specs.declared.reading.Reading.{Reading}
 use Rattle.grammar.specs.declared.reading.Reading.TheVariants.{Read, Faulty}
 use Rattle.grammar.specs.Encoding.{sizes}
-use Rattle.grammar.specs.examples.Cards.{wordsR, wordsM, wordsE}
+use Rattle.grammar.specs.examples.Cards.{words_r, words_m, words_e}
 
 pub record Example : Type 0 where
   pub words : List ℕ
@@ -14,15 +14,15 @@ abbrev example : List ℕ → Reading → Example
 example ws o = record { words = ws; outcome = o }
 
 -- n rules of one empty positive conjunct, and then the words ws
-unfoldable pub emptyRules : ℕ → List ℕ → List ℕ
-emptyRules zero ws = ws
-emptyRules (suc n) ws = 0x20000000 ∷ 0x30000000 ∷ emptyRules n ws
+unfoldable pub empty_rules : ℕ → List ℕ → List ℕ
+empty_rules zero ws = ws
+empty_rules (suc n) ws = 0x20000000 ∷ 0x30000000 ∷ empty_rules n ws
 
 unfoldable pub examples : List Example
 examples =
-    example wordsR (Read (sizes 1 1 2))
-    ∷ example wordsM (Read (sizes 5 3 9))
-    ∷ example wordsE (Read (sizes 4 2 5))
+    example words_r (Read (sizes 1 1 2))
+    ∷ example words_m (Read (sizes 5 3 9))
+    ∷ example words_e (Read (sizes 4 2 5))
     -- no rules
     ∷ example (0x10000101 ∷ 0x70000000 ∷ []) (Read (sizes 1 1 0))
     ∷ example (0x10001820 ∷ 0x70000000 ∷ []) (Read (sizes 32 24 0))
@@ -53,8 +53,8 @@ examples =
     ∷ example (0x10000101 ∷ 0x20000000 ∷ 0x30000000 ∷ 0x60000001 ∷ 0x70000000 ∷ []) (Faulty (OutOfRange 3))
     ∷ example (0x10000101 ∷ 0x20000000 ∷ 0x50000001 ∷ 0x70000000 ∷ []) (Faulty (UnexpectedWord 2))
     -- 128 rules, and a 129th: last of all that can be wrong with its word
-    ∷ example (0x10000101 ∷ emptyRules 128 (0x70000000 ∷ [])) (Read (sizes 1 1 128))
-    ∷ example (0x10000101 ∷ emptyRules 129 (0x70000000 ∷ [])) (Faulty (TooManyRules 257))
-    ∷ example (0x10000101 ∷ emptyRules 128 (0x20000001 ∷ [])) (Faulty (OutOfRange 257))
+    ∷ example (0x10000101 ∷ empty_rules 128 (0x70000000 ∷ [])) (Read (sizes 1 1 128))
+    ∷ example (0x10000101 ∷ empty_rules 129 (0x70000000 ∷ [])) (Faulty (TooManyRules 257))
+    ∷ example (0x10000101 ∷ empty_rules 128 (0x20000001 ∷ [])) (Faulty (OutOfRange 257))
     -- the first faulty word decides
     ∷ example (0x10000101 ∷ 0x20000001 ∷ 0x20000000 ∷ []) (Faulty (OutOfRange 1)) ∷ []

@@ -2,7 +2,7 @@
 use Prim.Native.Nat.{◌+◌, ◌%◌, ◌<◌}
 use native.Mathlib.Nat.{mod-lt}
 use native.Mathlib.Omega.{arith}
-use Rattle.inputs.proofs.Writing.{Writing, writing_start, writing-next, writing-done}
+use Rattle.inputs.proofs.Writing.{Writing, writing_start, writing_next, writing_done}
 use Rattle.inputs.proofs.write_input.Statement.{statement}
 use Rattle.inputs.proofs.write_input.Tie as tie
 
@@ -40,13 +40,13 @@ loop-less : tie.Need-loop-smaller invariant-loop decreases-loop
 loop-less c = omega arith
 
 loop-again : tie.Need-loop-preserved invariant-loop decreases-loop
-loop-again c = writing-next c.before.loop.invariant c.loop-test.true
+loop-again c = writing_next c.before.loop.invariant c.loop-test.true
 
 same_length : tie.Need-same-length invariant-loop decreases-loop
 same_length c = c.before.loop.invariant.same_length
 
 returns : tie.Need-returns invariant-loop decreases-loop
-returns c = writing-done c.before.loop.invariant c.loop-test.false
+returns c = writing_done c.before.loop.invariant c.loop-test.false
 
 pub write-input-spec : {M : Type 1} → statement M
 write-input-spec =

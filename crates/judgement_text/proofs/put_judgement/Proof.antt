@@ -1,6 +1,6 @@
 -- By the answer: a refusal, nothing, or a verdict and the calls.
-use Rattle.text.proofs.Writing.{put-none, put_then}
-use Rattle.judgement_text.specs.Judgement.{verdictLine, judgementText}
+use Rattle.text.proofs.Writing.{put_none, put_then}
+use Rattle.judgement_text.specs.Judgement.{verdict_line, judgement_text}
 use borrow.Author.Rules.{rules}
 use Rattle.judgement_text.proofs.put_judgement.Statement.{statement}
 use Rattle.judgement_text.proofs.put_judgement.Tie as tie
@@ -42,21 +42,21 @@ same_length : tie.Need-same-length
 same_length c = search rules
 
 returns : tie.Need-returns
-unfolding judgementText
+unfolding judgement_text
 returns c =
     let at-put-refusal = c.before.before in
     let at-answer = at-put-refusal.before.before.before in
     rw at-answer.answer.given.1 at-put-refusal.put-refusal.ensures
 
 returns-2 : tie.Need-returns-2
-unfolding judgementText
-returns-2 c = rw c.enum_told.given.1 (put-none _ _)
+unfolding judgement_text
+returns-2 c = rw c.enum_told.given.1 (put_none _ _)
 
 same-length-2 : tie.Need-same-length-2
 same-length-2 c = search rules
 
 returns-3 : tie.Need-returns-3
-unfolding verdictLine judgementText
+unfolding verdict_line judgement_text
 returns-3 c =
     let calls = c.before.before in
     let verdict = calls.before.before.before.before in
@@ -66,7 +66,7 @@ same-length-3 : tie.Need-same-length-3
 same-length-3 c = search rules
 
 returns-4 : tie.Need-returns-4
-unfolding verdictLine judgementText
+unfolding verdict_line judgement_text
 returns-4 c =
     let calls = c.before.before in
     let verdict = calls.before.before.before.before in

@@ -1,5 +1,5 @@
 -- A full input, or one event more.
-use Rattle.kept_input.proofs.Adding.{add-full, add_done}
+use Rattle.kept_input.proofs.Adding.{add_full, add_done}
 use borrow.Author.Rules.{rules}
 use Rattle.kept_input.proofs.add_event.Statement.{statement}
 use Rattle.kept_input.proofs.add_event.Tie as tie
@@ -12,7 +12,7 @@ returns c =
     let at_read = c.before in
     let start = at_read.before.before in
     let reads = at_read.read.ensures in
-    add-full start.args.events.now start.args.progress reads.whole reads.eight reads.reads start.args.event c.if1.true
+    add_full start.args.events.now start.args.progress reads.whole reads.eight reads.reads start.args.event c.if1.true
 
 cast-events : tie.Need-overflow-cast-events
 cast-events c = search rules

@@ -1,8 +1,8 @@
 -- The input lent as a part of the events.
 use mathlib.Core.Path.{◌≡◌}
 use lib.ListN.{length}
-use Rattle.grammar.specs.Limits.{maxTokens}
-use Rattle.kept_input.proofs.Judging.{among-events, input-taken, judges-kept}
+use Rattle.grammar.specs.Limits.{max_tokens}
+use Rattle.kept_input.proofs.Judging.{among_events, input_taken, judges_kept}
 use borrow.Author.Rules.{rules}
 use Rattle.kept_judge.proofs.judge_kept.Statement.{statement}
 use Rattle.kept_judge.proofs.judge_kept.Tie as tie
@@ -14,15 +14,15 @@ array-share-prefix-events : tie.Need-array-share-prefix-events
 array-share-prefix-events c =
     let at_length = c.before in
     let start = at_length.before.before.before.before in
-    let whole : length start.args.kept.events ≡ maxTokens = search rules in
-    among-events start.args.kept whole at_length.input-length.result at_length.input-length.ensures
+    let whole : length start.args.kept.events ≡ max_tokens = search rules in
+    among_events start.args.kept whole at_length.input_length.result at_length.input_length.ensures
 
 slice-aggregate-judge : tie.Need-slice-aggregate-judge
 slice-aggregate-judge c =
     let at_length = c.before.before in
     let start = at_length.before.before.before.before in
-    let whole : length start.args.kept.events ≡ maxTokens = search rules in
-    input-taken start.args.kept whole at_length.input-length.result at_length.input-length.ensures
+    let whole : length start.args.kept.events ≡ max_tokens = search rules in
+    input_taken start.args.kept whole at_length.input_length.result at_length.input_length.ensures
 
 judge-requires : tie.Need-judge-requires
 judge-requires c κs = search rules
@@ -38,8 +38,8 @@ returns c =
     let at-judge = c.before.before.before.before in
     let at_length = at-judge.before.before.before.before.before in
     let start = at_length.before.before.before.before in
-    let whole : length start.args.kept.events ≡ maxTokens = search rules in
-    judges-kept start.args.kept whole at_length.input-length.result at_length.input-length.ensures at-judge.judge.ensures
+    let whole : length start.args.kept.events ≡ max_tokens = search rules in
+    judges_kept start.args.kept whole at_length.input_length.result at_length.input_length.ensures at-judge.judge.ensures
 
 pub judge-kept-spec : {M : Type 1} → statement M
 judge-kept-spec =

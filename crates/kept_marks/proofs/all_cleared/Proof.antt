@@ -4,20 +4,20 @@ use Prim.Native.Nat.{◌-◌, ◌≤◌}
 use native.Mathlib.Omega.{arith}
 use borrow.Author.Rules.{rules}
 use lib.ListN
-use Rattle.kept_steps.specs.Histories.{markCount}
-use Rattle.kept_marks.specs.contracts.Stored.{clearedBeyond}
-use Rattle.kept_marks.proofs.Lists.{appliedTo, applied-none, applied-more, applied-all}
+use Rattle.kept_steps.specs.Histories.{mark_count}
+use Rattle.kept_marks.specs.inner.Stored.{cleared_beyond}
+use Rattle.kept_marks.proofs.Lists.{applied_to, applied_none, applied_more, applied_all}
 use Rattle.kept_marks.proofs.all_cleared.Statement.{statement}
 use Rattle.kept_marks.proofs.all_cleared.Tie as tie
 
 abbrev invariant-loop : tie.invariant-loop
-invariant-loop length within₀ at₀ within at = (at ≤ ListN.length within₀) × (within ≡ appliedTo (clearedBeyond length) at within₀)
+invariant-loop length within₀ at₀ within at = (at ≤ ListN.length within₀) × (within ≡ applied_to (cleared_beyond length) at within₀)
 
 abbrev decreases-loop : tie.decreases-loop
 decreases-loop length within₀ at₀ within at = ListN.length within₀ - at
 
 loop-holds : tie.Need-loop-init invariant-loop decreases-loop
-loop-holds c = (omega arith, applied-none (clearedBeyond c.args.length) c.args.marks)
+loop-holds c = (omega arith, applied_none (cleared_beyond c.args.length) c.args.marks)
 
 mul-cleared : tie.Need-overflow-mul-cleared invariant-loop decreases-loop
 mul-cleared c = search rules
@@ -41,23 +41,23 @@ loop-less : tie.Need-loop-smaller invariant-loop decreases-loop
 loop-less c =
     let turn = c.before in
     let start = turn.before.before in
-    let whole : ListN.length start.args.marks ≡ markCount = search rules in
+    let whole : ListN.length start.args.marks ≡ mark_count = search rules in
     omega (arith, turn.loop-test.true)
 
 loop-again : tie.Need-loop-preserved invariant-loop decreases-loop
 loop-again c =
     let at-loop = c.before.before in
     let given = at-loop.before.args in
-    let whole : ListN.length given.marks ≡ markCount = search rules in
+    let whole : ListN.length given.marks ≡ mark_count = search rules in
     let taken = c.before.loop-test.true in
-    (omega arith, applied-more (clearedBeyond given.length) at-loop.loop.at given.marks at-loop.loop.invariant.1 c.cleared.ensures)
+    (omega arith, applied_more (cleared_beyond given.length) at-loop.loop.at given.marks at-loop.loop.invariant.1 c.cleared.ensures)
 
 returns : tie.Need-returns invariant-loop decreases-loop
 returns c =
     let start = c.before.before in
-    let whole : ListN.length start.args.marks ≡ markCount = search rules in
-    let all : c.before.loop.at ≡ markCount = omega arith in
-    c.before.loop.invariant.1 ∙ (rw all (applied-all (clearedBeyond start.args.length) markCount start.args.marks (omega arith)))
+    let whole : ListN.length start.args.marks ≡ mark_count = search rules in
+    let all : c.before.loop.at ≡ mark_count = omega arith in
+    c.before.loop.invariant.1 ∙ (rw all (applied_all (cleared_beyond start.args.length) mark_count start.args.marks (omega arith)))
 
 pub all-cleared-spec : {M : Type 1} → statement M
 all-cleared-spec =

@@ -1,6 +1,6 @@
 -- The answer is packed, and the state is written back; the event was written in place.
 use mathlib.Core.Path.{refl}
-use Rattle.embed_promises.proofs.Keeping.{step-exported}
+use Rattle.embed_promises.proofs.Keeping.{step_exported}
 use borrow.Author.Rules.{rules}
 use Rattle.kept_states.proofs.add_event_in.Statement.{statement}
 use Rattle.kept_states.proofs.add_event_in.Tie as tie
@@ -18,7 +18,7 @@ returns : tie.Need-returns
 returns c =
     let at-add = c.before.before in
     let back = c.write-back.ensures in
-    step-exported at-add.before.before.progress-in.ensures at-add.add-event.ensures back.packs refl back.left
+    step_exported at-add.before.before.progress-in.ensures at-add.add-event.ensures back.packs refl back.left
 
 pub add-event-in-spec : {M : Type 1} → statement M
 add-event-in-spec =

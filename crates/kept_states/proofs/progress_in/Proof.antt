@@ -1,7 +1,7 @@
 -- All nine numbers are read.
 use mathlib.Core.Path.{◌≡◌}
 use lib.ListN.{length}
-use Rattle.embed_promises.proofs.Keeping.{state-read}
+use Rattle.embed_promises.proofs.Keeping.{state_read}
 use borrow.Author.Rules.{rules}
 use Rattle.kept_states.proofs.progress_in.Statement.{statement}
 use Rattle.kept_states.proofs.progress_in.Tie as tie
@@ -36,7 +36,7 @@ array-read-t29 c = search rules
 returns : tie.Need-returns
 returns c =
     let nine : length c.args.t1 ≡ 9 = search rules in
-    state-read c.args.t1 nine
+    state_read c.args.t1 nine
 
 pub progress-in-spec : {M : Type 1} → statement M
 progress-in-spec =

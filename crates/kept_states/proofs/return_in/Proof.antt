@@ -1,5 +1,5 @@
 -- The answer is packed, and the state is written back.
-use Rattle.embed_promises.proofs.Keeping.{move-exported}
+use Rattle.embed_promises.proofs.Keeping.{move_exported}
 use borrow.Author.Rules.{rules}
 use Rattle.kept_states.proofs.return_in.Statement.{statement}
 use Rattle.kept_states.proofs.return_in.Tie as tie
@@ -17,7 +17,7 @@ returns : tie.Need-returns
 returns c =
     let at-step = c.before.before in
     let back = c.write-back.ensures in
-    move-exported at-step.before.progress-in.ensures at-step.return-to.ensures back.packs back.left
+    move_exported at-step.before.progress-in.ensures at-step.return-to.ensures back.packs back.left
 
 pub return-in-spec : {M : Type 1} → statement M
 return-in-spec =

@@ -3,8 +3,8 @@ use mathlib.Core.Path.{◌≡◌, ap}
 use mathlib.Core.List.{List, ◌∷◌}
 use Prim.Native.Nat.{ℕ}
 use lib.ListN.{length}
-use Rattle.kept_steps.specs.Histories.{markCount}
-use Rattle.embed_promises.proofs.Keeping.{eight-listed}
+use Rattle.kept_steps.specs.Histories.{mark_count}
+use Rattle.embed_promises.proofs.Keeping.{eight_listed}
 use borrow.Author.Rules.{rules}
 use Rattle.kept_states.proofs.state_of.Statement.{statement}
 use Rattle.kept_states.proofs.state_of.Tie as tie
@@ -36,8 +36,8 @@ array-read-t26 c = search rules
 returns : tie.Need-returns
 returns c =
     let p = c.before.args.progress in
-    let eight : length p.marks ≡ markCount = search rules in
-    ap (λ (l : List ℕ). p.length ∷ l) (eight-listed p.marks eight)
+    let eight : length p.marks ≡ mark_count = search rules in
+    ap (λ (l : List ℕ). p.length ∷ l) (eight_listed p.marks eight)
 
 pub state-of-spec : {M : Type 1} → statement M
 state-of-spec =

@@ -4,16 +4,16 @@ use Prim.Native.Nat.{◌-◌, ◌≤◌, min}
 use native.Mathlib.Omega.{arith}
 use borrow.Author.Rules.{rules}
 use lib.ListN.{length}
-use Rattle.grammar.specs.Limits.{maxNonterminals}
-use Rattle.families.specs.contracts.Reach.{closure}
-use Rattle.families.proofs.Closure.{closure-next}
-use Rattle.families.proofs.Through.{through-long}
+use Rattle.grammar.specs.Limits.{max_nonterminals}
+use Rattle.families.specs.inner.Reach.{closure}
+use Rattle.families.proofs.Closure.{closure_next}
+use Rattle.families.proofs.Through.{through_long}
 use Rattle.left_reach.proofs.closed.Statement.{statement}
 use Rattle.left_reach.proofs.closed.Tie as tie
 
 abbrev invariant-loop : tie.invariant-loop
 invariant-loop nonterminals all reached₀ via₀ reached via =
-    (all ≡ min nonterminals maxNonterminals) × (via ≤ all) × (length reached ≡ maxNonterminals) × (reached ≡ closure via reached₀)
+    (all ≡ min nonterminals max_nonterminals) × (via ≤ all) × (length reached ≡ max_nonterminals) × (reached ≡ closure via reached₀)
 
 abbrev decreases-loop : tie.decreases-loop
 decreases-loop nonterminals all reached₀ via₀ reached via = all - via
@@ -46,14 +46,14 @@ loop-again c =
     let gone = c.go-through.ensures in (
       inv.0,
       omega (arith, test.loop-test.true),
-      ap length gone ∙ through-long _ _ ∙ inv.2,
-      closure-next _ _ inv.3 gone,
+      ap length gone ∙ through_long _ _ ∙ inv.2,
+      closure_next _ _ inv.3 gone,
     )
 
 returns : tie.Need-returns invariant-loop decreases-loop
 returns c =
     let inv = c.before.loop.invariant in
-    let all : c.before.loop.via ≡ min c.before.before.before.args.nonterminals maxNonterminals = omega (arith, c.loop-test.false, inv.0, inv.1) in
+    let all : c.before.loop.via ≡ min c.before.before.before.args.nonterminals max_nonterminals = omega (arith, c.loop-test.false, inv.0, inv.1) in
     rw all at inv.3
 
 pub closed-spec : {M : Type 1} → statement M

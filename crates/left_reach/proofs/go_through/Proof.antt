@@ -3,8 +3,8 @@ use mathlib.Core.Path.{◌≡◌, refl}
 use Prim.Native.Nat.{◌-◌}
 use native.Mathlib.Omega.{arith}
 use lib.ListN.{get_or}
-use Rattle.grammar.specs.Limits.{maxNonterminals}
-use Rattle.families.proofs.Through.{through-none, Walked, walked_none, walked_next, walked_all}
+use Rattle.grammar.specs.Limits.{max_nonterminals}
+use Rattle.families.proofs.Through.{through_none, Walked, walked_none, walked_next, walked_all}
 use Rattle.left_reach.proofs.go_through.Statement.{statement}
 use Rattle.left_reach.proofs.go_through.Tie as tie
 
@@ -12,7 +12,7 @@ abbrev invariant-loop : tie.invariant-loop
 invariant-loop sets₀ via bits beyond from₀ sets from = (beyond.bits ≡ get_or sets₀ via 0) × Walked via sets₀ sets from
 
 abbrev decreases-loop : tie.decreases-loop
-decreases-loop sets₀ via bits beyond from₀ sets from = maxNonterminals - from
+decreases-loop sets₀ via bits beyond from₀ sets from = max_nonterminals - from
 
 mul-bits : tie.Need-overflow-mul-bits invariant-loop decreases-loop
 mul-bits c = omega (arith, c.requires.0)
@@ -21,7 +21,7 @@ element-copy-out-bits : tie.Need-element-copy-out-bits invariant-loop decreases-
 element-copy-out-bits c = omega (arith, c.requires.0)
 
 returns : tie.Need-returns invariant-loop decreases-loop
-returns c = through-none _ _ c.if1.true
+returns c = through_none _ _ c.if1.true
 
 loop-holds : tie.Need-loop-init invariant-loop decreases-loop
 loop-holds c = (refl, walked_none _ _)

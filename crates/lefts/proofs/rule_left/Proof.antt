@@ -3,16 +3,16 @@ use mathlib.Core.Path.{◌≡◌, ap}
 use Prim.Native.Nat.{◌≤◌}
 use native.Mathlib.Omega.{arith}
 use lib.ListN.{length, drop}
-use Rattle.families.specs.contracts.Least.{at as family}
-use Rattle.families.specs.contracts.Left.{emptyIn, lefts, insideLeft}
-use Rattle.families.specs.contracts.Rules.{foldFromEnd}
-use Rattle.families.proofs.Words.{end_none, end-one, end-all}
+use Rattle.families.specs.inner.Least.{at as family}
+use Rattle.families.specs.inner.Left.{empty_in, lefts, inside_left}
+use Rattle.families.specs.inner.Rules.{fold_from_end}
+use Rattle.families.proofs.Words.{end_none, end_one, end_all}
 use Rattle.lefts.proofs.rule_left.Statement.{statement}
 use Rattle.lefts.proofs.rule_left.Tie as tie
 
 abbrev invariant-loop : tie.invariant-loop
 invariant-loop words firsts lookahead left₀ at₀ left at =
-    (at ≤ length words) × (left ≡ foldFromEnd (insideLeft (emptyIn lookahead (family firsts))) (lefts 0 0) (drop at words))
+    (at ≤ length words) × (left ≡ fold_from_end (inside_left (empty_in lookahead (family firsts))) (lefts 0 0) (drop at words))
 
 abbrev decreases-loop : tie.decreases-loop
 decreases-loop words firsts lookahead left₀ at₀ left at = at
@@ -24,7 +24,7 @@ loop-holds : tie.Need-loop-init invariant-loop decreases-loop
 loop-holds c =
     let start = c.before.before in (
       omega arith,
-      end_none (insideLeft (emptyIn start.args.lookahead (family start.args.firsts.now))) _
+      end_none (inside_left (empty_in start.args.lookahead (family start.args.firsts.now))) _
           start.args.words.now c.no-left.ensures,
     )
 
@@ -52,16 +52,16 @@ loop-again c =
     let loop = test.before in
     let start = loop.before.before.before in (
       omega (arith, test.loop-test.true, loop.loop.invariant.0),
-      end-one (insideLeft (emptyIn start.args.lookahead (family start.args.firsts.now))) _ start.args.words.now
+      end_one (inside_left (empty_in start.args.lookahead (family start.args.firsts.now))) _ start.args.words.now
           loop.loop.invariant.1 test.loop-test.true
-          loop.loop.invariant.0 c.before.decode.ensures c.inside-left.ensures,
+          loop.loop.invariant.0 c.before.decode.ensures c.inside_left.ensures,
     )
 
 returns : tie.Need-returns invariant-loop decreases-loop
 returns c =
     let loop = c.before.before in
     let start = loop.before.before.before in
-    let left = end-all (insideLeft (emptyIn start.args.lookahead (family start.args.firsts.now))) _
+    let left = end_all (inside_left (empty_in start.args.lookahead (family start.args.firsts.now))) _
     start.args.words.now loop.loop.invariant.1 c.before.loop-test.false in
     ap (λ x. x.rule.bits) left
 

@@ -2,7 +2,7 @@
 use mathlib.Core.Path.{sym, ap, ◌∙◌}
 use native.Mathlib.Omega.{arith}
 use Rattle.lookahead.specs.Elements.{has}
-use Rattle.families.proofs.LeftPasses.{left-terminal, left-none, left-on, left-stop}
+use Rattle.families.proofs.LeftPasses.{left_terminal, left_none, left_on, left_stop}
 use Rattle.lefts.proofs.symbol_left.Statement.{statement}
 use Rattle.lefts.proofs.symbol_left.Tie as tie
 
@@ -16,7 +16,7 @@ empty-requires : tie.Need-empty-requires
 empty-requires c κs = tt
 
 returns : tie.Need-returns
-returns c = left-terminal _ _ c.before.enum_told.given.1 c.empty.ensures
+returns c = left_terminal _ _ c.before.enum_told.given.1 c.empty.ensures
 
 cast-at : tie.Need-overflow-cast-at
 cast-at c = omega arith
@@ -25,7 +25,7 @@ empty-requires-2 : tie.Need-empty-requires-2
 empty-requires-2 c κs = tt
 
 returns-2 : tie.Need-returns-2
-returns-2 c = left-none _ _ c.before.before.before.symbol.given.1 (omega (arith, c.before.if1.true)) c.empty2.ensures
+returns-2 c = left_none _ _ c.before.before.before.symbol.given.1 (omega (arith, c.before.if1.true)) c.empty2.ensures
 
 alone-requires : tie.Need-alone-requires
 alone-requires c κs = tt
@@ -50,7 +50,7 @@ returns-3 c =
     let contains = c.before.before in
     let alone = contains.before.before.before in
     let test = alone.before in
-    left-on _ _ test.before.before.symbol.given.1 (omega (arith, test.if1.false)) alone.alone.ensures
+    left_on _ _ test.before.before.symbol.given.1 (omega (arith, test.if1.false)) alone.alone.ensures
     (sym (contains.contains.ensures ∙ ap (has _) contains.before.nothing.ensures) ∙ c.before.if2.true) c.join.ensures
 
 returns-4 : tie.Need-returns-4
@@ -58,7 +58,7 @@ returns-4 c =
     let contains = c.before in
     let alone = contains.before.before.before in
     let test = alone.before in
-    left-stop _ _ test.before.before.symbol.given.1 (omega (arith, test.if1.false)) alone.alone.ensures
+    left_stop _ _ test.before.before.symbol.given.1 (omega (arith, test.if1.false)) alone.alone.ensures
     (sym (contains.contains.ensures ∙ ap (has _) contains.before.nothing.ensures) ∙ c.if2.false)
 
 pub symbol-left-spec : {M : Type 1} → statement M

@@ -3,19 +3,19 @@ use mathlib.Core.Path.{◌≡◌, refl, ap}
 use Prim.Native.Nat.{ℕ, ◌-◌, ◌%◌, ◌^◌, ◌≤◌}
 use native.Mathlib.Omega.{arith}
 use lib.ListN.{length, length-replicate}
-use Rattle.grammar.specs.Codes.{noEntry}
-use Rattle.grammar.specs.Limits.{maxTableWords}
+use Rattle.grammar.specs.Codes.{no_entry}
+use Rattle.grammar.specs.Limits.{max_table_words}
 use Rattle.lookahead.specs.declared.Lookahead.TheVariants.{One}
 use Rattle.base.specs.Lists.{listed}
-use Rattle.lending.specs.contracts.Lending.{tableWordAt}
+use Rattle.lending.specs.inner.Lending.{table_word_at}
 use Rattle.base.proofs.Front.{front}
-use Rattle.lending.proofs.Laying.{count_room, front-next, words-made}
+use Rattle.lending.proofs.Laying.{count_room, front_next, words_made}
 use Rattle.lending.proofs.lay_out.Statement.{statement}
 use Rattle.lending.proofs.lay_out.Tie as tie
 
 abbrev invariant-loop : tie.invariant-loop
 invariant-loop words₀ firsts follows entries nonterminals count at₀ words at =
-    (at ≤ count) × (words ≡ front (listed count (λ i. tableWordAt nonterminals firsts follows entries i % 2 ^ 32)) at words₀)
+    (at ≤ count) × (words ≡ front (listed count (λ i. table_word_at nonterminals firsts follows entries i % 2 ^ 32)) at words₀)
 
 abbrev decreases-loop : tie.decreases-loop
 decreases-loop words₀ firsts follows entries nonterminals count at₀ words at = count - at
@@ -32,7 +32,7 @@ loop-holds c = (omega arith, refl)
 word-requires : tie.Need-word-requires invariant-loop decreases-loop
 word-requires c κs =
     let start = c.before.before.before.before in
-    (start.requires.0.fewNonterminals, omega (arith, c.before.before.word_count.ensures, count_room One start.args.sizes start.requires.0))
+    (start.requires.0.few_nonterminals, omega (arith, c.before.before.word_count.ensures, count_room One start.args.sizes start.requires.0))
 
 cast-words : tie.Need-overflow-cast-words invariant-loop decreases-loop
 cast-words c = omega arith
@@ -61,8 +61,8 @@ loop-again c =
     let start = loop.before.before.before in
     let room = count_room One start.args.sizes start.requires.0 in (
       omega arith,
-      front-next _ _ _ _ _ _ loop.loop.invariant.1 c.before.loop-test.true
-          (omega (arith, loop.before.word_count.ensures, room, ap length start.requires.1, length-replicate {A = ℕ} maxTableWords noEntry))
+      front_next _ _ _ _ _ _ loop.loop.invariant.1 c.before.loop-test.true
+          (omega (arith, loop.before.word_count.ensures, room, ap length start.requires.1, length-replicate {A = ℕ} max_table_words no_entry))
           (rw c.word.ensures),
     )
 
@@ -70,7 +70,7 @@ returns : tie.Need-returns invariant-loop decreases-loop
 returns c =
     let loop = c.before in
     let start = loop.before.before.before in
-    words-made start.args.sizes _ _ _ loop.loop.invariant.0 c.loop-test.false loop.before.word_count.ensures
+    words_made start.args.sizes _ _ _ loop.loop.invariant.0 c.loop-test.false loop.before.word_count.ensures
     (rw start.requires.1 at loop.loop.invariant.1)
 
 pub lay-out-spec : {M : Type 1} → statement M

@@ -5,9 +5,9 @@ use native.Mathlib.Omega.{arith}
 use lib.ListN.{length, length-set}
 use Rattle.lookahead.specs.declared.Lookahead.TheVariants.{Two}
 use Rattle.base.specs.Lists.{listed}
-use Rattle.lending.specs.contracts.Lending.{tableWordAt}
+use Rattle.lending.specs.inner.Lending.{table_word_at}
 use Rattle.base.proofs.Front.{front}
-use Rattle.lending.proofs.Laying.{lent-given, front-next, lent-short, lent_written}
+use Rattle.lending.proofs.Laying.{lent_given, front_next, lent_short, lent_written}
 use borrow.Author.Rules.{rules}
 use Rattle.lending.proofs.lend_two.Statement.{statement}
 use Rattle.lending.proofs.lend_two.Tie as tie
@@ -16,7 +16,7 @@ abbrev invariant-loop : tie.invariant-loop
 invariant-loop firsts follows entries table₀ nonterminals count at₀ table at =
     (at ≤ count)
     × (length table ≡ length table₀)
-    × (table ≡ front (listed count (tableWordAt nonterminals firsts follows entries)) at table₀)
+    × (table ≡ front (listed count (table_word_at nonterminals firsts follows entries)) at table₀)
 
 abbrev decreases-loop : tie.decreases-loop
 decreases-loop firsts follows entries table₀ nonterminals count at₀ table at = count - at
@@ -28,7 +28,7 @@ cast-nonterminals : tie.Need-overflow-cast-nonterminals invariant-loop decreases
 cast-nonterminals c = omega arith
 
 word-count-requires : tie.Need-word-count-requires invariant-loop decreases-loop
-word-count-requires c κs = lent-given _ c.before.lent-sizes.ensures
+word-count-requires c κs = lent_given _ c.before.lent_sizes.ensures
 
 returns : tie.Need-returns invariant-loop decreases-loop
 returns c =
@@ -36,8 +36,8 @@ returns c =
     let sized = counted.before.before in
     let start = sized.before.before in
     let given = start.args in
-    let short = rw (counted.word_count.ensures, sized.lent-sizes.ensures) at c.if1.true in
-    lent-short Two _ given.firsts.now given.follows.now given.entries.now given.table.now short
+    let short = rw (counted.word_count.ensures, sized.lent_sizes.ensures) at c.if1.true in
+    lent_short Two _ given.firsts.now given.follows.now given.entries.now given.table.now short
 
 loop-holds : tie.Need-loop-init invariant-loop decreases-loop
 loop-holds c = (omega arith, refl, refl)
@@ -46,8 +46,8 @@ word-requires : tie.Need-word-requires invariant-loop decreases-loop
 word-requires c κs =
     let loop = c.before in
     let counted = loop.before.before in
-    let given = lent-given _ counted.before.before.lent-sizes.ensures in
-    (given.fewNonterminals, omega (arith, counted.word_count.ensures, given.fewNonterminals))
+    let given = lent_given _ counted.before.before.lent_sizes.ensures in
+    (given.few_nonterminals, omega (arith, counted.word_count.ensures, given.few_nonterminals))
 
 mul-table : tie.Need-overflow-mul-table invariant-loop decreases-loop
 mul-table c =
@@ -74,7 +74,7 @@ loop-again c =
     let at-if1 = loop.before in (
       omega arith,
       simp length-set loop.loop.invariant.1,
-      front-next _ _ _ _ _ _ loop.loop.invariant.2 at-loop-test.loop-test.true (omega (arith, at-if1.if1.false)) c.word.ensures,
+      front_next _ _ _ _ _ _ loop.loop.invariant.2 at-loop-test.loop-test.true (omega (arith, at-if1.if1.false)) c.word.ensures,
     )
 
 same_length : tie.Need-same-length invariant-loop decreases-loop
@@ -87,7 +87,7 @@ returns-2 c =
     let sized = counted.before.before in
     let start = sized.before.before in
     let given = start.args in
-    rw (← sized.lent-sizes.ensures)
+    rw (← sized.lent_sizes.ensures)
     (lent_written _ given.firsts.now given.follows.now given.entries.now loop.loop.invariant.0 c.loop-test.false
     given.table.now loop.before.if1.false
     counted.word_count.ensures loop.loop.invariant.2)

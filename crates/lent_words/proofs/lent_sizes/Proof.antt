@@ -1,7 +1,7 @@
 -- By what is found, and by the limits.
 use borrow.Author.Rules.{rules}
 use borrow.Author.Tests.{lt-ltb, le-ltb}
-use Rattle.lent_words.specs.contracts.Words.{lentSizes}
+use Rattle.lent_words.specs.inner.Words.{lent_sizes}
 use Rattle.lent_words.proofs.lent_sizes.Statement.{statement}
 use Rattle.lent_words.proofs.lent_sizes.Tie as tie
 
@@ -12,22 +12,22 @@ enum-known-finding : tie.Need-enum-known-finding
 enum-known-finding c = search rules
 
 returns : tie.Need-returns
-unfolding lentSizes
+unfolding lent_sizes
 returns c = rw (c.before.before.before.finding.given.1, lt-ltb _ _ c.if1.true)
 
 returns-2 : tie.Need-returns-2
-unfolding lentSizes
+unfolding lent_sizes
 returns-2 c =
     let at-if1 = c.before.before in
     let at-finding = at-if1.before.before.before in
     rw (at-finding.finding.given.1, le-ltb _ _ at-if1.if1.false, lt-ltb _ _ c.if2.true)
 
 returns-3 : tie.Need-returns-3
-unfolding lentSizes
+unfolding lent_sizes
 returns-3 c = rw c.enum_told.given.1
 
 returns-4 : tie.Need-returns-4
-unfolding lentSizes
+unfolding lent_sizes
 returns-4 c =
     let at-if1 = c.before.before in
     let at-finding = at-if1.before.before.before in

@@ -3,19 +3,19 @@ use mathlib.Core.Path.{◌≡◌, sym, ap, ◌∙◌}
 use mathlib.Core.Bool.{false}
 use Prim.Native.Nat.{◌-◌, ◌≤◌}
 use native.Mathlib.Omega.{arith}
-use Rattle.memo_table.specs.contracts.Tally.{calledAt}
-use Rattle.memo_table.proofs.Tallying.{row_within, called-here, called-not, called-none}
+use Rattle.memo_table.specs.inner.Tally.{called_at}
+use Rattle.memo_table.proofs.Tallying.{row_within, called_here, called_not, called_none}
 use Rattle.memo_table.proofs.called_at.Statement.{statement}
 use Rattle.memo_table.proofs.called_at.Tie as tie
 
 abbrev invariant-loop : tie.invariant-loop
-invariant-loop memo nonterminals tokens place nonterminal₀ nonterminal = (calledAt memo nonterminal tokens place ≡ false) × (nonterminal ≤ nonterminals)
+invariant-loop memo nonterminals tokens place nonterminal₀ nonterminal = (called_at memo nonterminal tokens place ≡ false) × (nonterminal ≤ nonterminals)
 
 abbrev decreases-loop : tie.decreases-loop
 decreases-loop memo nonterminals tokens place nonterminal₀ nonterminal = nonterminals - nonterminal
 
 loop-holds : tie.Need-loop-init invariant-loop decreases-loop
-loop-holds c = (called-none _ _ _, omega arith)
+loop-holds c = (called_none _ _ _, omega arith)
 
 add-if1 : tie.Need-overflow-add-if1 invariant-loop decreases-loop
 add-if1 c = omega (arith, row_within _ _ c.loop-test.true c.before.before.requires, c.before.before.requires.placed)
@@ -35,7 +35,7 @@ shared-slice-read-if1 c = omega (arith, row_within _ _ c.before.loop-test.true c
 returns : tie.Need-returns invariant-loop decreases-loop
 returns c =
     let turn = c.before.before in
-    called-here _ _ turn.loop-test.true turn.before.before.requires c.if1.true
+    called_here _ _ turn.loop-test.true turn.before.before.requires c.if1.true
 
 add-nonterminal : tie.Need-overflow-add-nonterminal invariant-loop decreases-loop
 add-nonterminal c = omega arith
@@ -46,13 +46,13 @@ loop-less c = omega arith
 loop-again : tie.Need-loop-preserved invariant-loop decreases-loop
 loop-again c =
     let turn = c.before.before in
-    (called-not _ _ turn.loop-test.true turn.before.before.requires c.if1.false turn.before.loop.invariant.0, omega arith)
+    (called_not _ _ turn.loop-test.true turn.before.before.requires c.if1.false turn.before.loop.invariant.0, omega arith)
 
 returns-2 : tie.Need-returns-2 invariant-loop decreases-loop
 returns-2 c =
     let args = c.before.before.args in
     let e : c.before.loop.nonterminal ≡ args.nonterminals = omega arith in
-    sym c.before.loop.invariant.0 ∙ ap (λ n. calledAt args.memo.now n args.tokens args.place) e
+    sym c.before.loop.invariant.0 ∙ ap (λ n. called_at args.memo.now n args.tokens args.place) e
 
 pub called-at-spec : {M : Type 1} → statement M
 called-at-spec =

@@ -6,18 +6,18 @@ use native.Mathlib.Omega.{arith}
 use borrow.Author.Fill.{fill_none, fill_more}
 use lib.ListN.{length, drop, replicate, length-set}
 use lib.Seq.{drop-length}
-use Rattle.grammar.specs.Codes.{uncalledCode}
+use Rattle.grammar.specs.Codes.{uncalled_code}
 use Rattle.memo_table.proofs.clear.Statement.{statement}
 use Rattle.memo_table.proofs.clear.Tie as tie
 
 abbrev invariant-loop : tie.invariant-loop
-invariant-loop memo₀ at₀ memo at = (at ≤ length memo₀) × ((length memo ≡ length memo₀) × (memo ≡ replicate at uncalledCode ++ drop at memo₀))
+invariant-loop memo₀ at₀ memo at = (at ≤ length memo₀) × ((length memo ≡ length memo₀) × (memo ≡ replicate at uncalled_code ++ drop at memo₀))
 
 abbrev decreases-loop : tie.decreases-loop
 decreases-loop memo₀ at₀ memo at = length memo - at
 
 loop-holds : tie.Need-loop-init invariant-loop decreases-loop
-loop-holds c = (omega arith, (refl, fill_none _ uncalledCode))
+loop-holds c = (omega arith, (refl, fill_none _ uncalled_code))
 
 mul-memo : tie.Need-overflow-mul-memo invariant-loop decreases-loop
 mul-memo c = omega arith
@@ -36,7 +36,7 @@ loop-again c = (
   omega arith,
   (
     simp length-set c.before.loop.invariant.1.0,
-    rw c.before.loop.invariant.1.1 (fill_more c.before.loop.at uncalledCode c.before.before.args.memo.now (omega arith)),
+    rw c.before.loop.invariant.1.1 (fill_more c.before.loop.at uncalled_code c.before.before.args.memo.now (omega arith)),
   ),
 )
 

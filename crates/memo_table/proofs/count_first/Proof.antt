@@ -2,13 +2,13 @@
 use mathlib.Core.Path.{◌≡◌, ap, ◌∙◌}
 use Prim.Native.Nat.{◌+◌, ◌-◌, ◌≤◌}
 use native.Mathlib.Omega.{arith}
-use Rattle.memo_table.specs.contracts.Tally.{recordedBelow}
-use Rattle.memo_table.proofs.Tallying.{count_none, count-bound}
+use Rattle.memo_table.specs.inner.Tally.{recorded_below}
+use Rattle.memo_table.proofs.Tallying.{count_none, count_bound}
 use Rattle.memo_table.proofs.count_first.Statement.{statement}
 use Rattle.memo_table.proofs.count_first.Tie as tie
 
 abbrev invariant-loop : tie.invariant-loop
-invariant-loop memo entries count₀ from₀ count from = (from ≤ entries) × (count ≡ recordedBelow memo from)
+invariant-loop memo entries count₀ from₀ count from = (from ≤ entries) × (count ≡ recorded_below memo from)
 
 abbrev decreases-loop : tie.decreases-loop
 decreases-loop memo entries count₀ from₀ count from = entries - from
@@ -43,7 +43,7 @@ add-count c =
     let blocked = c.before in
     let loop = blocked.before.before.loop in
     let memo = blocked.before.before.before.before.args.memo.now in
-    omega (arith, c.count-block.ensures, loop.invariant.1, blocked.Block-of.ensures, count-bound memo (loop.from + blocked.Block-of.result))
+    omega (arith, c.count-block.ensures, loop.invariant.1, blocked.Block-of.ensures, count_bound memo (loop.from + blocked.Block-of.result))
 
 loop-less : tie.Need-loop-smaller invariant-loop decreases-loop
 loop-less c = let blocked = c.before in omega (arith, blocked.Block-of.ensures, blocked.before.loop-test.true)
@@ -60,7 +60,7 @@ returns : tie.Need-returns invariant-loop decreases-loop
 returns c =
     let args = c.before.before.before.args in
     let e : c.before.loop.from ≡ args.entries = omega arith in
-    c.before.loop.invariant.1 ∙ ap (recordedBelow args.memo.now) e
+    c.before.loop.invariant.1 ∙ ap (recorded_below args.memo.now) e
 
 pub count-first-spec : {M : Type 1} → statement M
 count-first-spec =

@@ -2,7 +2,7 @@
 use mathlib.Core.Path.{◌≡◌, sym, ◌∙◌}
 use Prim.Native.Nat.{◌≤◌}
 use native.Mathlib.Omega.{arith}
-use Rattle.memo_table.proofs.Tallying.{NoneBehind, none-behind, farthest-here, farthest-none}
+use Rattle.memo_table.proofs.Tallying.{NoneBehind, none_behind, farthest_here, farthest_none}
 use Rattle.memo_table.proofs.farthest.Statement.{statement}
 use Rattle.memo_table.proofs.farthest.Tie as tie
 
@@ -21,7 +21,7 @@ called-at-requires c κs = record { room = c.before.before.before.requires; plac
 returns : tie.Need-returns invariant-loop decreases-loop
 returns c =
     let loop = c.before.before.before.loop in
-    farthest-here _ _ _ loop.invariant.0 loop.invariant.1 (sym c.before.called_at.ensures ∙ c.if1.true)
+    farthest_here _ _ _ loop.invariant.0 loop.invariant.1 (sym c.before.called_at.ensures ∙ c.if1.true)
 
 sub-place : tie.Need-overflow-sub-place invariant-loop decreases-loop
 sub-place c = omega arith
@@ -32,13 +32,13 @@ loop-less c = omega arith
 loop-again : tie.Need-loop-preserved invariant-loop decreases-loop
 loop-again c =
     let loop = c.before.before.before.loop in
-    (omega arith, none-behind _ _ _ loop.invariant.1 (sym c.before.called_at.ensures ∙ c.if1.false))
+    (omega arith, none_behind _ _ _ loop.invariant.1 (sym c.before.called_at.ensures ∙ c.if1.false))
 
 returns-2 : tie.Need-returns-2 invariant-loop decreases-loop
 returns-2 c =
     let loop = c.before.loop in
     let e : loop.place ≡ 0 = omega arith in
-    farthest-none _ _ _ e loop.invariant.1
+    farthest_none _ _ _ e loop.invariant.1
 
 pub farthest-spec : {M : Type 1} → statement M
 farthest-spec =

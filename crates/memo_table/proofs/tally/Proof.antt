@@ -32,7 +32,7 @@ farthest-requires c κs =
 returns : tie.Need-returns
 returns c =
     let args = c.before.before.before.args in
-    tallied args.memo.now args.tokens (length args.memo.now / (args.tokens + 1)) c.before.count-first.ensures c.farthest.ensures
+    tallied args.memo.now args.tokens (length args.memo.now / (args.tokens + 1)) c.before.count_first.ensures c.farthest.ensures
 
 pub tally-spec : {M : Type 1} → statement M
 tally-spec =

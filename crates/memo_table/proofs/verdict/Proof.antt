@@ -1,6 +1,6 @@
 -- By the test.
 use borrow.Author.Tests.{eq-eqb, ne_eqb}
-use Rattle.memo_table.specs.contracts.Tally.{recordedVerdict}
+use Rattle.memo_table.specs.inner.Tally.{recorded_verdict}
 use Rattle.memo_table.proofs.verdict.Statement.{statement}
 use Rattle.memo_table.proofs.verdict.Tie as tie
 
@@ -8,11 +8,11 @@ tally-requires : tie.Need-tally-requires
 tally-requires c κs = tt
 
 returns : tie.Need-returns
-unfolding recordedVerdict
+unfolding recorded_verdict
 returns c = rw (eq-eqb _ _ c.if1.true, c.before.tally.ensures)
 
 returns-2 : tie.Need-returns-2
-unfolding recordedVerdict
+unfolding recorded_verdict
 returns-2 c = rw (ne_eqb _ _ c.if1.false, c.before.tally.ensures)
 
 pub verdict-spec : {M : Type 1} → statement M

@@ -1,6 +1,6 @@
 -- By the kinds of answers: the sum of the fields is the packed answer.
 use mathlib.Core.Path.{refl}
-use Rattle.embed_promises.proofs.Packed.{refused-packed, passed-packed, rejected-packed, accepted-packed}
+use Rattle.embed_promises.proofs.Packed.{refused_packed, passed_packed, rejected_packed, accepted_packed}
 use borrow.Author.Rules.{rules}
 use Rattle.packing.proofs.pack.Statement.{statement}
 use Rattle.packing.proofs.pack.Tie as tie
@@ -40,16 +40,16 @@ returns c =
     let at_position = c.before in
     let at_code = at_position.before in
     let at-answer = at_code.before.before in
-    refused-packed at-answer.answer.given.1 at_code.code.ensures at_position.position.ensures c.join.ensures
+    refused_packed at-answer.answer.given.1 at_code.code.ensures at_position.position.ensures c.join.ensures
 
 returns-2 : tie.Need-returns-2
-returns-2 c = passed-packed c.enum_told.given.1 refl
+returns-2 c = passed_packed c.enum_told.given.1 refl
 
 returns-3 : tie.Need-returns-3
-returns-3 c = rejected-packed c.before.before.answer2.given.1 c.join2.ensures
+returns-3 c = rejected_packed c.before.before.answer2.given.1 c.join2.ensures
 
 returns-4 : tie.Need-returns-4
-returns-4 c = accepted-packed c.before.before.answer3.given.1 c.join3.ensures
+returns-4 c = accepted_packed c.before.before.answer3.given.1 c.join3.ensures
 
 pub pack-spec : {M : Type 1} → statement M
 pack-spec =

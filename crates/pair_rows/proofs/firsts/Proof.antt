@@ -4,7 +4,7 @@ use Rattle.pair_rows.proofs.firsts.Statement.{statement}
 use Rattle.pair_rows.proofs.firsts.Tie as tie
 
 returns : tie.Need-returns
-returns c = laws.firsts-are c.args.set.bits
+returns c = laws.firsts_are c.args.set.bits
 
 pub firsts-spec : {M : Type 1} → statement M
 firsts-spec = tie.close (tie.spec returns)

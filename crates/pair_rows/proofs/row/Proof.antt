@@ -9,7 +9,7 @@ empty-requires : tie.Need-empty-requires
 empty-requires c κs = search rules
 
 returns : tie.Need-returns
-returns c = let args = c.before.before.args in behind.none-behind args.l args.other.bits c.before.if1.true c.empty.ensures
+returns c = let args = c.before.before.args in behind.none_behind args.l args.other.bits c.before.if1.true c.empty.ensures
 
 firsts-requires : tie.Need-firsts-requires
 firsts-requires c κs = search rules
@@ -31,7 +31,7 @@ returns-2 c =
     let made = c.before.before.before in
     let tested = made.before in
     let args = tested.before.args in
-    laws.row-before-none args.other.bits made.firsts.result.bits made.firsts.ensures args.l tested.if1.false c.if2.true
+    laws.row_before_none args.other.bits made.firsts.result.bits made.firsts.ensures args.l tested.if1.false c.if2.true
 
 add-t7 : tie.Need-overflow-add-t7
 add-t7 c = search rules
@@ -47,7 +47,7 @@ returns-3 c =
     let made = c.before.before.before in
     let tested = made.before in
     let args = tested.before.args in
-    laws.row-before-end args.other.bits made.firsts.result.bits made.firsts.ensures args.l tested.if1.false c.if2.false
+    laws.row_before_end args.other.bits made.firsts.result.bits made.firsts.ensures args.l tested.if1.false c.if2.false
 
 pub row-spec : {M : Type 1} → statement M
 row-spec =

@@ -12,10 +12,10 @@ returns : tie.Need-returns
 returns c =
     let at = c.before in
     let args = at.before.before.args in
-    laws.rows-skipped args.set.bits args.other.bits at.if1.true c.empty.ensures
+    laws.rows_skipped args.set.bits args.other.bits at.if1.true c.empty.ensures
 
 mul-ends : tie.Need-overflow-mul-ends
-mul-ends c = let args = c.before.before.before.args in record { fits = laws.ends-fit args.set.bits args.other.bits (omega arith) }
+mul-ends c = let args = c.before.before.before.args in record { fits = laws.ends_fit args.set.bits args.other.bits (omega arith) }
 
 firsts-requires : tie.Need-firsts-requires
 firsts-requires c κs = search rules
@@ -24,7 +24,7 @@ mul-t10 : tie.Need-overflow-mul-t10
 mul-t10 c =
     let at = c.before in
     let args = at.before.before.before.before.args in
-    record { fits = laws.product-fits args.set.bits args.other.bits at.firsts.result.bits at.firsts.ensures }
+    record { fits = laws.product_fits args.set.bits args.other.bits at.firsts.result.bits at.firsts.ensures }
 
 returns-2 : tie.Need-returns-2
 returns-2 c =

@@ -1,16 +1,16 @@
 -- The tests before the first rule, in their order, and then the rules.
 use mathlib.Core.Path.{sym, ◌∙◌}
 use borrow.Author.Tests.{not-true, not-false}
-use Rattle.grammar.proofs.Heading.{reading-long, reading-empty, nonterminals-out, terminals-out, reading-rules}
+use Rattle.grammar.proofs.Heading.{reading_long, reading_empty, nonterminals_out, terminals_out, reading_rules}
 use borrow.Author.Rules.{rules}
 use Rattle.reader.proofs.read.Statement.{statement}
 use Rattle.reader.proofs.read.Tie as tie
 
 returns : tie.Need-returns
-returns c = reading-long c.before.before.args.words.now c.if1.true
+returns c = reading_long c.before.before.args.words.now c.if1.true
 
 returns-2 : tie.Need-returns-2
-returns-2 c = reading-empty c.before.before.before.args.words.now c.before.if1.false c.if2.true
+returns-2 c = reading_empty c.before.before.before.args.words.now c.before.if1.false c.if2.true
 
 shared-slice-read-decode : tie.Need-shared-slice-read-decode
 shared-slice-read-decode c = search rules
@@ -30,7 +30,7 @@ returns-3 c =
     let first = declared.before in
     let some = first.before.before in
     let words = some.before.before.before.args.words.now in
-    nonterminals-out words some.before.if1.false some.if2.false first.decode.ensures declared.declared.ensures
+    nonterminals_out words some.before.if1.false some.if2.false first.decode.ensures declared.declared.ensures
     (sym c.before.within.ensures ∙ not-true _ c.if3.true)
 
 within-requires-2 : tie.Need-within-requires-2
@@ -42,7 +42,7 @@ returns-4 c =
     let first = declared.before in
     let some = first.before.before in
     let words = some.before.before.before.args.words.now in
-    terminals-out words some.before.if1.false some.if2.false first.decode.ensures declared.declared.ensures
+    terminals_out words some.before.if1.false some.if2.false first.decode.ensures declared.declared.ensures
     (sym c.before.before.before.within.ensures ∙ not-false _ c.before.before.if3.false)
     (sym c.before.within2.ensures ∙ not-true _ c.if4.true)
 
@@ -55,7 +55,7 @@ returns-5 c =
     let first = declared.before in
     let some = first.before.before in
     let words = some.before.before.before.args.words.now in
-    c.read-rules.ensures ∙ reading-rules words some.before.if1.false some.if2.false first.decode.ensures declared.declared.ensures
+    c.read-rules.ensures ∙ reading_rules words some.before.if1.false some.if2.false first.decode.ensures declared.declared.ensures
     (sym c.before.before.before.before.within.ensures ∙ not-false _ c.before.before.before.if3.false)
     (sym c.before.before.within2.ensures ∙ not-false _ c.before.if4.false)
 

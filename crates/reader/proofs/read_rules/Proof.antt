@@ -5,7 +5,7 @@ use native.Mathlib.Omega.{arith}
 use lib.ListN.{length, drop}
 use borrow.Author.Rules.{rules}
 use Rattle.grammar.specs.Reading.{scan}
-use Rattle.grammar.proofs.Scanning.{scan-go, scan-stop, scan-over}
+use Rattle.grammar.proofs.Scanning.{scan_go, scan_stop, scan_over}
 use Rattle.reader.proofs.read_rules.Statement.{statement}
 use Rattle.reader.proofs.read_rules.Tie as tie
 
@@ -40,7 +40,7 @@ returns : tie.Need-returns invariant-loop decreases-loop
 returns c =
     let word = c.before.before.before in
     let turn = word.before.before.before in
-    sym (scan-stop _ _ _ turn.loop-test.true word.before.decode.ensures word.read_word.ensures c.before.result2.given.1) ∙
+    sym (scan_stop _ _ _ turn.loop-test.true word.before.decode.ensures word.read_word.ensures c.before.result2.given.1) ∙
     turn.before.loop.invariant
 
 add_at : tie.Need-overflow-add-at invariant-loop decreases-loop
@@ -53,14 +53,14 @@ loop-again : tie.Need-loop-preserved invariant-loop decreases-loop
 loop-again c =
     let word = c.before.before.before in
     let turn = word.before.before.before in
-    sym (scan-go _ _ _ turn.loop-test.true word.before.decode.ensures word.read_word.ensures c.before.result.given.1) ∙
+    sym (scan_go _ _ _ turn.loop-test.true word.before.decode.ensures word.read_word.ensures c.before.result.given.1) ∙
     turn.before.loop.invariant
 
 finish-requires : tie.Need-finish-requires invariant-loop decreases-loop
 finish-requires c κs = tt
 
 returns-2 : tie.Need-returns-2 invariant-loop decreases-loop
-returns-2 c = c.finish.ensures ∙ sym (scan-over _ _ _ c.before.loop-test.false) ∙ c.before.before.loop.invariant
+returns-2 c = c.finish.ensures ∙ sym (scan_over _ _ _ c.before.loop-test.false) ∙ c.before.before.loop.invariant
 
 pub read-rules-spec : {M : Type 1} → statement M
 read-rules-spec =

@@ -1,5 +1,5 @@
 -- One word of a reading: the tests in their order.
-use Rattle.grammar.proofs.Scanning.{stepped-rule, stepped-other}
+use Rattle.grammar.proofs.Scanning.{stepped_rule, stepped_other}
 use borrow.Author.Tests.{not-true, not-false}
 use mathlib.Core.Path.{sym, ◌∙◌}
 use Rattle.grammar.specs.Reading.{stepped}
@@ -47,8 +47,8 @@ returns-3 c =
     let x = start.args in
     let allowed = sym at-allows.allows.ensures ∙ not-false _ at-if1.if1.false in
     let ranged = sym at-in-range.in-range.ensures ∙ not-false _ at-if2.if2.false in
-    let begins = sym at-begins-rule.begins-rule.ensures ∙ at-if3.if3.true in
-    rw (stepped-rule x.word x.progress x.at allowed ranged begins, ← at_after.after.ensures) c.counted.ensures
+    let begins = sym at-begins-rule.begins_rule.ensures ∙ at-if3.if3.true in
+    rw (stepped_rule x.word x.progress x.at allowed ranged begins, ← at_after.after.ensures) c.counted.ensures
 
 returns-4 : tie.Need-returns-4
 returns-4 c =
@@ -62,8 +62,8 @@ returns-4 c =
     let x = start.args in
     let allowed = sym at-allows.allows.ensures ∙ not-false _ at-if1.if1.false in
     let ranged = sym at-in-range.in-range.ensures ∙ not-false _ at-if2.if2.false in
-    let begins = sym at-begins-rule.begins-rule.ensures ∙ c.if3.false in
-    rw (stepped-other x.word x.progress x.at allowed ranged begins, ← at_after.after.ensures)
+    let begins = sym at-begins-rule.begins_rule.ensures ∙ c.if3.false in
+    rw (stepped_other x.word x.progress x.at allowed ranged begins, ← at_after.after.ensures)
 
 pub read-word-spec : {M : Type 1} → statement M
 read-word-spec =

@@ -1,6 +1,6 @@
 -- What is answered and left, by the table's length, by what the search finds and leaves, and by what is lent of the table.
-use Rattle.recognizer_promises.proofs.CostliestFaults.{table-refused}
-use Rattle.recognizer.proofs.LentTable.{costliest-lent}
+use Rattle.recognizer_promises.proofs.CostliestFaults.{table_refused}
+use Rattle.recognizer.proofs.LentTable.{costliest_lent}
 use borrow.Author.Rules.{rules}
 use Rattle.recognizer.proofs.judge_costliest.Statement.{statement}
 use Rattle.recognizer.proofs.judge_costliest.Tie as tie
@@ -9,7 +9,7 @@ returns : tie.Need-returns
 returns c =
     let start = c.before.before.before.before.before in
     let given = start.args in
-    table-refused given.words.now given.tokens given.log.now given.table.now given.memo.now c.if1.true
+    table_refused given.words.now given.tokens given.log.now given.table.now given.memo.now c.if1.true
 
 descend-costliest-requires : tie.Need-descend-costliest-requires
 descend-costliest-requires c κs = search rules
@@ -36,7 +36,7 @@ returns-2 c =
     let long = ran.before.before.before in
     let start = long.before.before.before.before.before in
     let given = start.args in
-    costliest-lent given.words.now given.tokens given.log.now given.table.now given.memo.now long.if1.false
+    costliest_lent given.words.now given.tokens given.log.now given.table.now given.memo.now long.if1.false
     ran.descend-costliest.ensures lent.lend.ensures c.answer.ensures
 
 pub judge-costliest-spec : {M : Type 1} → statement M

@@ -1,7 +1,7 @@
 -- Without entries nothing is changed; with them the descent leaves them.
 use mathlib.Core.Path.{sym}
 use lib.Seq.{length-take-le}
-use Rattle.recursive_descent_promises.proofs.Deciding.{prepared-fits, prepared-refused, prepared-start, prepared-done}
+use Rattle.recursive_descent_promises.proofs.Deciding.{prepared_fits, prepared_refused, prepared_start, prepared_done}
 use borrow.Author.Rules.{rules}
 use Rattle.recursive_descent.proofs.descend_words.Statement.{statement}
 use Rattle.recursive_descent.proofs.descend_words.Tie as tie
@@ -16,7 +16,7 @@ returns : tie.Need-returns
 returns c =
     let refused = c.before in
     let prepared = refused.before.before.before in
-    prepared-refused prepared.prepare-input.ensures refused.if1.true
+    prepared_refused prepared.prepare-input.ensures refused.if1.true
 
 slice-relend-prefix-call : tie.Need-slice-relend-prefix-call
 slice-relend-prefix-call c = search rules
@@ -24,13 +24,13 @@ slice-relend-prefix-call c = search rules
 slice-aggregate-call : tie.Need-slice-aggregate-call
 slice-aggregate-call c =
     let prepared = c.before.before.before.before.before.before.before.before in
-    sym (length-take-le _ _ (prepared-fits prepared.prepare-input.ensures))
+    sym (length-take-le _ _ (prepared_fits prepared.prepare-input.ensures))
 
 call-requires : tie.Need-call-requires
 call-requires c κs =
     let passed = c.before.before.before.before.before in
     let prepared = passed.before.before.before in
-    prepared-start prepared.prepare-input.ensures passed.if1.false
+    prepared_start prepared.prepare-input.ensures passed.if1.false
 
 same-length-2 : tie.Need-same-length-2
 same-length-2 c = search rules
@@ -40,7 +40,7 @@ returns-2 c =
     let called = c.before.before.before in
     let passed = called.before.before.before.before.before.before in
     let prepared = passed.before.before.before in
-    prepared-done prepared.prepare-input.ensures passed.if1.false called.call.ensures
+    prepared_done prepared.prepare-input.ensures passed.if1.false called.call.ensures
 
 pub descend-words-spec : {M : Type 1} → statement M
 descend-words-spec =

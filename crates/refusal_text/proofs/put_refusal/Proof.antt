@@ -1,6 +1,6 @@
 -- A refusal is put by its code and position.
 use Rattle.text.proofs.Writing.{put_then}
-use Rattle.refusal_text.proofs.Lines.{refusal-put}
+use Rattle.refusal_text.proofs.Lines.{refusal_put}
 use borrow.Author.Rules.{rules}
 use Rattle.refusal_text.proofs.put_refusal.Statement.{statement}
 use Rattle.refusal_text.proofs.put_refusal.Tie as tie
@@ -42,7 +42,7 @@ returns c =
     let place = second.before in
     let first = place.before.before.before.before.before in
     let number = first.before in
-    refusal-put _ number.code.ensures place.position.ensures
+    refusal_put _ number.code.ensures place.position.ensures
     (put_then (put_then first.put-labelled.ensures second.put-labelled2.ensures) last.put-bytes.ensures)
 
 pub put-refusal-spec : {M : Type 1} → statement M

@@ -1,8 +1,8 @@
 -- The words loaded are judged by, and bytes that are no words are refused.
 use Prim.Native.Nat.{ℕ}
 use lib.ListN.{length-replicate}
-use Rattle.grammar.specs.Limits.{maxWords}
-use Rattle.report_texts.proofs.Files.{found, not_found, judgement-refused, judgement-judged}
+use Rattle.grammar.specs.Limits.{max_words}
+use Rattle.report_texts.proofs.Files.{found, not_found, judgement_refused, judgement_judged}
 use borrow.Author.Rules.{rules}
 use Rattle.report.proofs.judgement.Statement.{statement}
 use Rattle.report.proofs.judgement.Tie as tie
@@ -14,13 +14,13 @@ enum-known-loaded : tie.Need-enum-known-loaded
 enum-known-loaded c = search rules
 
 array-share-prefix-words : tie.Need-array-share-prefix-words
-array-share-prefix-words c = (found c.before.before.before.load.ensures c.before.loaded.given.1 (length-replicate {A = ℕ} maxWords 0)).few
+array-share-prefix-words c = (found c.before.before.before.load.ensures c.before.loaded.given.1 (length-replicate {A = ℕ} max_words 0)).few
 
 slice-aggregate-put-judged : tie.Need-slice-aggregate-put-judged
 slice-aggregate-put-judged c =
     let at-loaded = c.before.before in
     let at_load = at-loaded.before.before in
-    (found at_load.load.ensures at-loaded.loaded.given.1 (length-replicate {A = ℕ} maxWords 0)).part
+    (found at_load.load.ensures at-loaded.loaded.given.1 (length-replicate {A = ℕ} max_words 0)).part
 
 put-judged-requires : tie.Need-put-judged-requires
 put-judged-requires c κs = search rules
@@ -41,7 +41,7 @@ returns c =
     let at_load = at-loaded.before.before in
     let at_before = at_load.before.before.before.before in
     let s = at_before.before in
-    judgement-judged (found at_load.load.ensures at-loaded.loaded.given.1 (length-replicate {A = ℕ} maxWords 0)) s.args.events.now
+    judgement_judged (found at_load.load.ensures at-loaded.loaded.given.1 (length-replicate {A = ℕ} max_words 0)) s.args.events.now
     at-put-judged.put-judged.ensures
 
 same-length-2 : tie.Need-same-length-2
@@ -54,7 +54,7 @@ returns-2 c =
     let at_load = at-enum-told.before.before in
     let at_before = at_load.before.before.before.before in
     let s = at_before.before in
-    judgement-refused s.args.bytes.now s.args.events.now (not_found at_load.load.ensures at-enum-told.enum_told.given.1)
+    judgement_refused s.args.bytes.now s.args.events.now (not_found at_load.load.ensures at-enum-told.enum_told.given.1)
     at-put-refusal.put-refusal.ensures
 
 pub judgement-spec : {M : Type 1} → statement M

@@ -1,10 +1,10 @@
 -- What is printed follows from what is found of the grammar and lent of its table.
 use Prim.Native.Nat.{ℕ}
 use lib.ListN.{length-replicate}
-use Rattle.grammar.specs.Codes.{noEntry}
-use Rattle.grammar.specs.Limits.{maxTableWords}
-use Rattle.report_texts.specs.Texts.{blankTable}
-use Rattle.report_texts.proofs.Answers.{put-checked-text}
+use Rattle.grammar.specs.Codes.{no_entry}
+use Rattle.grammar.specs.Limits.{max_table_words}
+use Rattle.report_texts.specs.Texts.{blank_table}
+use Rattle.report_texts.proofs.Answers.{put_checked_text}
 use borrow.Author.Rules.{rules}
 use Rattle.report.proofs.put_checked.Statement.{statement}
 use Rattle.report.proofs.put_checked.Tie as tie
@@ -28,12 +28,12 @@ same_length : tie.Need-same-length
 same_length c = search rules
 
 returns : tie.Need-returns
-unfolding blankTable
+unfolding blank_table
 returns c =
     let at-put-check = c.before.before in
     let at-lend = at-put-check.before.before.before.before in
     let at-find = at-lend.before.before.before.before.before in
-    put-checked-text _ (length-replicate {A = ℕ} maxTableWords noEntry) at-find.find-into.ensures at-lend.lend.ensures
+    put_checked_text _ (length-replicate {A = ℕ} max_table_words no_entry) at-find.find-into.ensures at-lend.lend.ensures
     at-put-check.put-check.ensures
 
 pub put-checked-spec : {M : Type 1} → statement M

@@ -1,10 +1,10 @@
 -- What is printed follows from what the descent finds and leaves.
 use Prim.Native.Nat.{ℕ}
 use lib.ListN.{length-replicate}
-use Rattle.grammar.specs.Codes.{uncalledCode}
-use Rattle.grammar.specs.Limits.{maxMemoEntries}
-use Rattle.report_texts.specs.Texts.{blankMemo}
-use Rattle.report_texts.proofs.Answers.{put-judged-text}
+use Rattle.grammar.specs.Codes.{uncalled_code}
+use Rattle.grammar.specs.Limits.{max_memo_entries}
+use Rattle.report_texts.specs.Texts.{blank_memo}
+use Rattle.report_texts.proofs.Answers.{put_judged_text}
 use borrow.Author.Rules.{rules}
 use Rattle.report.proofs.put_judged.Statement.{statement}
 use Rattle.report.proofs.put_judged.Tie as tie
@@ -37,7 +37,7 @@ same_length : tie.Need-same-length
 same_length c = search rules
 
 returns : tie.Need-returns
-unfolding blankMemo
+unfolding blank_memo
 returns c =
     let at-put-judgement = c.before.before in
     let at-tokens = at-put-judgement.before.before in
@@ -45,7 +45,7 @@ returns c =
     let at-answer = at-nonterminals.before.before in
     let at-descend = at-answer.before.before.before in
     let start = at-descend.before.before.before.before.before in
-    put-judged-text start.args.events.now (length-replicate {A = ℕ} maxMemoEntries uncalledCode) at-nonterminals.nonterminals.ensures
+    put_judged_text start.args.events.now (length-replicate {A = ℕ} max_memo_entries uncalled_code) at-nonterminals.nonterminals.ensures
     at-tokens.tokens.ensures at-descend.descend-words.ensures at-answer.answer.ensures at-put-judgement.put-judgement.ensures
 
 pub put-judged-spec : {M : Type 1} → statement M

@@ -1,9 +1,9 @@
 -- The words loaded are checked, and bytes that are no words are refused.
 use Prim.Native.Nat.{ℕ}
 use lib.ListN.{length-replicate}
-use Rattle.grammar.specs.Limits.{maxWords}
-use Rattle.report_texts.proofs.Files.{found, not_found, sheet-refused, sheet-checked}
-use Rattle.report_texts.proofs.Counts.{sheet-printed}
+use Rattle.grammar.specs.Limits.{max_words}
+use Rattle.report_texts.proofs.Files.{found, not_found, sheet_refused, sheet_checked}
+use Rattle.report_texts.proofs.Counts.{sheet_printed}
 use borrow.Author.Rules.{rules}
 use Rattle.report.proofs.sheet.Statement.{statement}
 use Rattle.report.proofs.sheet.Tie as tie
@@ -15,13 +15,13 @@ enum-known-loaded : tie.Need-enum-known-loaded
 enum-known-loaded c = search rules
 
 array-share-prefix-words : tie.Need-array-share-prefix-words
-array-share-prefix-words c = (found c.before.before.before.load.ensures c.before.loaded.given.1 (length-replicate {A = ℕ} maxWords 0)).few
+array-share-prefix-words c = (found c.before.before.before.load.ensures c.before.loaded.given.1 (length-replicate {A = ℕ} max_words 0)).few
 
 slice-aggregate-put-checked : tie.Need-slice-aggregate-put-checked
 slice-aggregate-put-checked c =
     let at-loaded = c.before.before in
     let at_load = at-loaded.before.before in
-    (found at_load.load.ensures at-loaded.loaded.given.1 (length-replicate {A = ℕ} maxWords 0)).part
+    (found at_load.load.ensures at-loaded.loaded.given.1 (length-replicate {A = ℕ} max_words 0)).part
 
 put-checked-requires : tie.Need-put-checked-requires
 put-checked-requires c κs = search rules
@@ -42,8 +42,8 @@ returns c =
     let at_load = at-loaded.before.before in
     let at_before = at_load.before.before.before in
     let s = at_before.before in
-    sheet-printed s.args.bytes.now
-    (sheet-checked (found at_load.load.ensures at-loaded.loaded.given.1 (length-replicate {A = ℕ} maxWords 0))
+    sheet_printed s.args.bytes.now
+    (sheet_checked (found at_load.load.ensures at-loaded.loaded.given.1 (length-replicate {A = ℕ} max_words 0))
     at-put-checked.put-checked.ensures)
 
 same-length-2 : tie.Need-same-length-2
@@ -56,8 +56,8 @@ returns-2 c =
     let at_load = at-enum-told.before.before in
     let at_before = at_load.before.before.before in
     let s = at_before.before in
-    sheet-printed s.args.bytes.now
-    (sheet-refused s.args.bytes.now (not_found at_load.load.ensures at-enum-told.enum_told.given.1) at-put-refusal.put-refusal.ensures)
+    sheet_printed s.args.bytes.now
+    (sheet_refused s.args.bytes.now (not_found at_load.load.ensures at-enum-told.enum_told.given.1) at-put-refusal.put-refusal.ensures)
 
 pub sheet-spec : {M : Type 1} → statement M
 sheet-spec =

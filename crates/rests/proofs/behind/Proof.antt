@@ -1,5 +1,5 @@
 -- A terminal by itself, a nonterminal by its set.
-use Rattle.families.specs.contracts.First.{symbolFirst}
+use Rattle.families.specs.inner.First.{symbol_first}
 use borrow.Author.Rules.{rules}
 use Rattle.rests.proofs.behind.Statement.{statement}
 use Rattle.rests.proofs.behind.Tie as tie
@@ -20,11 +20,11 @@ concat-requires : tie.Need-concat-requires
 concat-requires c κs = search rules
 
 returns : tie.Need-returns
-unfolding symbolFirst
+unfolding symbol_first
 returns c = rw c.before.before.symbol.given.1 c.behind-terminal.ensures.is
 
 returns-2 : tie.Need-returns-2
-unfolding symbolFirst
+unfolding symbol_first
 returns-2 c = rw (c.before.before.before.symbol2.given.1, ← c.before.set-of.ensures) c.concat.ensures.is
 
 pub behind-spec : {M : Type 1} → statement M

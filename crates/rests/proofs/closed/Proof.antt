@@ -1,6 +1,6 @@
 -- Only a positive goes into the meet.
 use mathlib.Core.Path.{◌∙◌}
-use Rattle.families.proofs.FirstPasses.{not-positive}
+use Rattle.families.proofs.FirstPasses.{not_positive}
 use borrow.Author.Rules.{rules}
 use Rattle.rests.proofs.closed.Statement.{statement}
 use Rattle.rests.proofs.closed.Tie as tie
@@ -9,7 +9,7 @@ enum_told : tie.Need-enum-told
 enum_told c = search rules
 
 returns : tie.Need-returns
-returns c = not-positive c.before.args.word _ _ c.match.keys2
+returns c = not_positive c.before.args.word _ _ c.match.keys2
 
 meet-requires : tie.Need-meet-requires
 meet-requires c κs = search rules

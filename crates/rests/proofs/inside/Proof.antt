@@ -1,6 +1,6 @@
 -- By whether the word is a symbol.
-use Rattle.families.specs.contracts.Least.{lookup}
-use Rattle.families.proofs.FirstPasses.{first-closed}
+use Rattle.families.specs.inner.Least.{lookup}
+use Rattle.families.proofs.FirstPasses.{first_closed}
 use borrow.Author.Rules.{rules}
 use Rattle.rests.proofs.inside.Statement.{statement}
 use Rattle.rests.proofs.inside.Tie as tie
@@ -16,11 +16,11 @@ closed-requires c κs = search rules
 
 returns : tie.Need-returns
 returns c =
-    let at-end = c.before in
-    let at-match = at-end.before in
+    let at_end = c.before in
+    let at-match = at_end.before in
     let start = at-match.before.before.before in
-    rw (at-end.end.ensures.is, c.closed.ensures)
-    (first-closed start.args.lookahead (lookup start.args.firsts.now) start.args.word start.args.rest at-match.match.keys2)
+    rw (at_end.end.ensures.is, c.closed.ensures)
+    (first_closed start.args.lookahead (lookup start.args.firsts.now) start.args.word start.args.rest at-match.match.keys2)
 
 behind-requires : tie.Need-behind-requires
 behind-requires c κs = search rules

@@ -3,16 +3,16 @@ use mathlib.Core.Path.{◌≡◌, ap}
 use Prim.Native.Nat.{◌≤◌}
 use native.Mathlib.Omega.{arith}
 use lib.ListN.{length, drop}
-use Rattle.families.specs.contracts.First.{noRest, insideWord}
-use Rattle.families.specs.contracts.Least.{lookup}
-use Rattle.families.specs.contracts.Rules.{foldFromEnd}
-use Rattle.families.proofs.Words.{end_none, end-one, end-all}
+use Rattle.families.specs.inner.First.{no_rest, inside_word}
+use Rattle.families.specs.inner.Least.{lookup}
+use Rattle.families.specs.inner.Rules.{fold_from_end}
+use Rattle.families.proofs.Words.{end_none, end_one, end_all}
 use Rattle.rests.proofs.rule_first.Statement.{statement}
 use Rattle.rests.proofs.rule_first.Tie as tie
 
 abbrev invariant-loop : tie.invariant-loop
 invariant-loop words firsts terminals lookahead rest₀ at₀ rest at =
-    (at ≤ length words) × (rest ≡ foldFromEnd (insideWord lookahead (lookup firsts)) (noRest lookahead terminals) (drop at words))
+    (at ≤ length words) × (rest ≡ fold_from_end (inside_word lookahead (lookup firsts)) (no_rest lookahead terminals) (drop at words))
 
 abbrev decreases-loop : tie.decreases-loop
 decreases-loop words firsts terminals lookahead rest₀ at₀ rest at = at
@@ -23,7 +23,7 @@ no-rest-requires c κs = tt
 loop-holds : tie.Need-loop-init invariant-loop decreases-loop
 loop-holds c =
     let start = c.before.before in
-    (omega arith, end_none (insideWord start.args.lookahead (lookup start.args.firsts.now)) _ start.args.words.now c.no-rest.ensures)
+    (omega arith, end_none (inside_word start.args.lookahead (lookup start.args.firsts.now)) _ start.args.words.now c.no-rest.ensures)
 
 sub_at : tie.Need-overflow-sub-at invariant-loop decreases-loop
 sub_at c = omega arith
@@ -49,7 +49,7 @@ loop-again c =
     let loop = test.before in
     let start = loop.before.before.before in (
       omega (arith, test.loop-test.true, loop.loop.invariant.0),
-      end-one (insideWord start.args.lookahead (lookup start.args.firsts.now)) _ start.args.words.now
+      end_one (inside_word start.args.lookahead (lookup start.args.firsts.now)) _ start.args.words.now
           loop.loop.invariant.1 test.loop-test.true
           loop.loop.invariant.0 c.before.decode.ensures c.inside.ensures,
     )
@@ -58,7 +58,7 @@ returns : tie.Need-returns invariant-loop decreases-loop
 returns c =
     let loop = c.before.before in
     let start = loop.before.before.before in
-    let rest = end-all (insideWord start.args.lookahead (lookup start.args.firsts.now)) _ start.args.words.now
+    let rest = end_all (inside_word start.args.lookahead (lookup start.args.firsts.now)) _ start.args.words.now
     loop.loop.invariant.1 c.before.loop-test.false in
     ap (λ x. x.meet.bits) rest
 

@@ -1,5 +1,5 @@
 -- By whether the word is a symbol.
-use Rattle.families.proofs.FollowPasses.{tail-closed}
+use Rattle.families.proofs.FollowPasses.{tail_closed}
 use borrow.Author.Rules.{rules}
 use Rattle.rests.proofs.tail_before.Statement.{statement}
 use Rattle.rests.proofs.tail_before.Tie as tie
@@ -8,7 +8,7 @@ enum-known-word : tie.Need-enum-known-word
 enum-known-word c = search rules
 
 returns : tie.Need-returns
-returns c = tail-closed _ _ _ c.before.args.word _ c.match.keys2
+returns c = tail_closed _ _ _ c.before.args.word _ c.match.keys2
 
 behind-requires : tie.Need-behind-requires
 behind-requires c κs = search rules

@@ -2,20 +2,20 @@
 use mathlib.Core.Path.{◌≡◌}
 use Prim.Native.Nat.{◌-◌, ◌≤◌}
 use native.Mathlib.Omega.{arith}
-use Rattle.tabular_promises.specs.contracts.Filling.{rankBy, lastsTo, beforesTo}
-use Rattle.tabular_promises.proofs.RuleRanks.{lasts-start, befores-start, lasts-more, befores-more, all-lasts, all-befores}
+use Rattle.tabular_promises.specs.inner.Filling.{rank_by, lasts_to, befores_to}
+use Rattle.tabular_promises.proofs.RuleRanks.{lasts_start, befores_start, lasts_more, befores_more, all_lasts, all_befores}
 use Rattle.rule_ranks.proofs.by_rank.Statement.{statement}
 use Rattle.rule_ranks.proofs.by_rank.Tie as tie
 
 abbrev invariant-loop : tie.invariant-loop
 invariant-loop words starts rules reaches lasts₀ befores₀ rule₀ lasts befores rule =
-    (rule ≤ rules) × (lasts ≡ lastsTo (rankBy words starts reaches) rule) × (befores ≡ beforesTo (rankBy words starts reaches) rule)
+    (rule ≤ rules) × (lasts ≡ lasts_to (rank_by words starts reaches) rule) × (befores ≡ befores_to (rank_by words starts reaches) rule)
 
 abbrev decreases-loop : tie.decreases-loop
 decreases-loop words starts rules reaches lasts₀ befores₀ rule₀ lasts befores rule = rules - rule
 
 loop-holds : tie.Need-loop-init invariant-loop decreases-loop
-loop-holds c = (omega arith, lasts-start _, befores-start _)
+loop-holds c = (omega arith, lasts_start _, befores_start _)
 
 mul-rank-at : tie.Need-overflow-mul-rank-at invariant-loop decreases-loop
 mul-rank-at c = omega arith
@@ -56,14 +56,14 @@ loop-again c =
     let loop = at-loop-test.before.loop in
     let rank = c.rank-at.ensures in (
       omega (arith, at-loop-test.loop-test.true),
-      lasts-more _ loop.rule loop.invariant.1 rank,
-      befores-more _ loop.rule loop.invariant.1 loop.invariant.2 rank,
+      lasts_more _ loop.rule loop.invariant.1 rank,
+      befores_more _ loop.rule loop.invariant.1 loop.invariant.2 rank,
     )
 
 returns : tie.Need-returns invariant-loop decreases-loop
 returns c =
     let loop = c.before.loop in
-    (all-lasts _ loop.rule loop.invariant.0 c.loop-test.false loop.invariant.1, all-befores _ loop.rule loop.invariant.0 c.loop-test.false loop.invariant.2)
+    (all_lasts _ loop.rule loop.invariant.0 c.loop-test.false loop.invariant.1, all_befores _ loop.rule loop.invariant.0 c.loop-test.false loop.invariant.2)
 
 pub by-rank-spec : {M : Type 1} → statement M
 by-rank-spec =

@@ -1,6 +1,6 @@
 -- By whether there is such a word.
 use native.Mathlib.Omega.{arith}
-use Rattle.tabular_promises.proofs.RuleRanks.{no-head}
+use Rattle.tabular_promises.proofs.RuleRanks.{no_head}
 use Rattle.rule_ranks.proofs.head_at.Statement.{statement}
 use Rattle.rule_ranks.proofs.head_at.Tie as tie
 
@@ -20,7 +20,7 @@ returns : tie.Need-returns
 returns c = rw (c.head_of.ensures, c.before.decode.ensures)
 
 returns-2 : tie.Need-returns-2
-returns-2 c = no-head c.before.before.args.words.now _ c.if1.false
+returns-2 c = no_head c.before.before.args.words.now _ c.if1.false
 
 pub head-at-spec : {M : Type 1} → statement M
 head-at-spec =

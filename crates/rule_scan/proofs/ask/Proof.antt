@@ -1,6 +1,6 @@
 -- Where there are no such words, or the nonterminal is found already, the rule adds nothing; else it is read at the span.
 use native.Mathlib.Omega.{arith}
-use Rattle.tabular_promises.proofs.RuleRanks.{asked-beyond, asked-nothing, asked-known, asked-scanned}
+use Rattle.tabular_promises.proofs.RuleRanks.{asked_beyond, asked_nothing, asked_known, asked_scanned}
 use Rattle.rule_scan.proofs.ask.Statement.{statement}
 use Rattle.rule_scan.proofs.ask.Tie as tie
 
@@ -15,17 +15,17 @@ end-of-requires c κs = tt
 
 returns : tie.Need-returns
 returns c =
-    let at-end = c.before in
-    let a = at-end.before.before.before.args in
-    asked-beyond a.words.now a.starts.now a.sizes.rules a.rule a.stands.now a.chart.now a.start a.end a.found
-    at-end.end_of_lem.ensures c.if1.true
+    let at_end = c.before in
+    let a = at_end.before.before.before.args in
+    asked_beyond a.words.now a.starts.now a.sizes.rules a.rule a.stands.now a.chart.now a.start a.end a.found
+    at_end.end_of_lem.ensures c.if1.true
 
 returns-2 : tie.Need-returns-2
 returns-2 c =
-    let at-end = c.before.before in
-    let a = at-end.before.before.before.args in
-    asked-nothing a.words.now a.starts.now a.sizes.rules a.rule a.stands.now a.chart.now a.start a.end a.found
-    at-end.end_of_lem.ensures c.before.if1.false c.if2.true
+    let at_end = c.before.before in
+    let a = at_end.before.before.before.args in
+    asked_nothing a.words.now a.starts.now a.sizes.rules a.rule a.stands.now a.chart.now a.start a.end a.found
+    at_end.end_of_lem.ensures c.before.if1.false c.if2.true
 
 mul-decode : tie.Need-overflow-mul-decode
 mul-decode c = omega (arith, c.before.if1.false, c.if2.false)
@@ -47,10 +47,10 @@ returns-3 c =
     let at-contains = c.before in
     let at_head = at-contains.before in
     let at-decode = at_head.before in
-    let at-end = at-decode.before.before.before.before in
-    let a = at-end.before.before.before.args in
-    asked-known a.words.now a.starts.now a.sizes.rules a.rule a.stands.now a.chart.now a.start a.end a.found
-    at-end.end_of_lem.ensures at-decode.decode.ensures at_head.head_of.ensures at-contains.contains.ensures c.if3.true
+    let at_end = at-decode.before.before.before.before in
+    let a = at_end.before.before.before.args in
+    asked_known a.words.now a.starts.now a.sizes.rules a.rule a.stands.now a.chart.now a.start a.end a.found
+    at_end.end_of_lem.ensures at-decode.decode.ensures at_head.head_of.ensures at-contains.contains.ensures c.if3.true
 
 keeps-requires : tie.Need-keeps-requires
 keeps-requires c κs =
@@ -67,10 +67,10 @@ returns-4 c =
     let at-contains = at-if3.before in
     let at_head = at-contains.before in
     let at-decode = at_head.before in
-    let at-end = at-decode.before.before.before.before in
-    let a = at-end.before.before.before.args in
-    asked-scanned a.words.now a.starts.now a.sizes.rules a.rule a.stands.now a.chart.now a.start a.end a.found
-    at-end.end_of_lem.ensures at-decode.decode.ensures at_head.head_of.ensures at-contains.contains.ensures at-if3.if3.false
+    let at_end = at-decode.before.before.before.before in
+    let a = at_end.before.before.before.args in
+    asked_scanned a.words.now a.starts.now a.sizes.rules a.rule a.stands.now a.chart.now a.start a.end a.found
+    at_end.end_of_lem.ensures at-decode.decode.ensures at_head.head_of.ensures at-contains.contains.ensures at-if3.if3.false
     at-keeps.keeps.ensures c.found-by.ensures
 
 pub ask-spec : {M : Type 1} → statement M

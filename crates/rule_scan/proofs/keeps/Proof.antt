@@ -3,8 +3,8 @@ use mathlib.Core.Path.{◌≡◌}
 use Prim.Native.Nat.{◌≤◌, ◌<◌}
 use native.Mathlib.Omega.{arith}
 use lib.Seq.{slice}
-use Rattle.tabular_promises.specs.contracts.Scanning.{scanned}
-use Rattle.tabular_promises.proofs.Scans.{scan-start, scan-more, scan-end}
+use Rattle.tabular_promises.specs.inner.Scanning.{scanned}
+use Rattle.tabular_promises.proofs.Scans.{scan_start, scan_more, scan_end}
 use Rattle.rule_scan.proofs.keeps.Statement.{statement}
 use Rattle.rule_scan.proofs.keeps.Tie as tie
 
@@ -18,7 +18,7 @@ none-open-requires : tie.Need-none-open-requires invariant-loop decreases-loop
 none-open-requires c κs = tt
 
 loop-holds : tie.Need-loop-init invariant-loop decreases-loop
-loop-holds c = (c.before.before.requires.0, omega arith, scan-start _ _ _ _ _ _ c.before.before.requires.1 c.none_open.ensures)
+loop-holds c = (c.before.before.requires.0, omega arith, scan_start _ _ _ _ _ _ c.before.before.requires.1 c.none_open.ensures)
 
 add-loop : tie.Need-overflow-add-loop invariant-loop decreases-loop
 add-loop c = omega (arith, c.loop.invariant.0)
@@ -52,14 +52,14 @@ loop-again c =
     let inv = loop.loop.invariant in (
       omega (arith, test),
       omega (arith, inv.1),
-      scan-more _ _ _ _ _ _ loop.before.before.before.requires.1 inv.2 (omega (arith, test)) inv.1 c.before.decode.ensures c.onto.ensures,
+      scan_more _ _ _ _ _ _ loop.before.before.before.requires.1 inv.2 (omega (arith, test)) inv.1 c.before.decode.ensures c.onto.ensures,
     )
 
 returns : tie.Need-returns invariant-loop decreases-loop
 returns c =
     let start = c.before.before.before.before in
     let inv = c.before.loop.invariant in
-    scan-end _ _ _ _ _ _ _ start.requires.1 inv.2 inv.0 c.loop-test.false start.requires.0
+    scan_end _ _ _ _ _ _ _ start.requires.1 inv.2 inv.0 c.loop-test.false start.requires.0
 
 pub keeps_spec : {M : Type 1} → statement M
 keeps_spec =

@@ -1,6 +1,6 @@
 -- A begin is noted where there is room.
 use mathlib.Core.Path.{sym, ◌∙◌}
-use Rattle.grammar.proofs.Starts.{noted, not-noted-full}
+use Rattle.grammar.proofs.Starts.{noted, not_noted_full}
 use borrow.Author.Rules.{rules}
 use Rattle.rule_starts.proofs.note.Statement.{statement}
 use Rattle.rule_starts.proofs.note.Tie as tie
@@ -18,10 +18,10 @@ add-result : tie.Need-overflow-add-result
 add-result c = search rules
 
 returns : tie.Need-returns
-returns c = noted _ (sym c.before.before.begins-rule.ensures ∙ c.before.if1.true) c.if2.true
+returns c = noted _ (sym c.before.before.begins_rule.ensures ∙ c.before.if1.true) c.if2.true
 
 returns-2 : tie.Need-returns-2
-returns-2 c = not-noted-full _ (sym c.before.before.begins-rule.ensures ∙ c.before.if1.true) c.if2.false
+returns-2 c = not_noted_full _ (sym c.before.before.begins_rule.ensures ∙ c.before.if1.true) c.if2.false
 
 returns-3 : tie.Need-returns-3
 returns-3 c = search rules

@@ -2,7 +2,7 @@
 use Prim.Native.Nat.{◌-◌}
 use native.Mathlib.Omega.{arith}
 use lib.ListN.{length}
-use Rattle.grammar.proofs.Starts.{Noting, noting-start, noting-turn, noting-end}
+use Rattle.grammar.proofs.Starts.{Noting, noting_start, noting_turn, noting_end}
 use Rattle.rule_starts.proofs.rule_starts.Statement.{statement}
 use Rattle.rule_starts.proofs.rule_starts.Tie as tie
 
@@ -13,7 +13,7 @@ abbrev decreases-loop : tie.decreases-loop
 decreases-loop words starts₀ rules₀ at₀ starts rules at = length words - at
 
 loop-holds : tie.Need-loop-init invariant-loop decreases-loop
-loop-holds c = noting-start c.before.before.args.words.now
+loop-holds c = noting_start c.before.before.args.words.now
 
 mul-decode : tie.Need-overflow-mul-decode invariant-loop decreases-loop
 mul-decode c = omega arith
@@ -38,10 +38,10 @@ loop-again c =
     let at-decode = c.before.before in
     let at-loop-test = at-decode.before.before in
     let at-loop = at-loop-test.before in
-    noting-turn at-loop.loop.invariant at-loop-test.loop-test.true _ at-decode.decode.ensures c.note.ensures
+    noting_turn at-loop.loop.invariant at-loop-test.loop-test.true _ at-decode.decode.ensures c.note.ensures
 
 returns : tie.Need-returns invariant-loop decreases-loop
-returns c = noting-end c.before.loop.invariant c.loop-test.false
+returns c = noting_end c.before.loop.invariant c.loop-test.false
 
 pub rule-starts-spec : {M : Type 1} → statement M
 rule-starts-spec =

@@ -12,25 +12,25 @@ use Rattle.grammar.specs.Syntax.{Body, Rule, Grammar}
 use Rattle.semantics.specs.Families.{Family, Short, FirstOf, FirstBody, Strung, Meeting, FollowBody, FollowClosed, FollowStrung, Claims}
 use Rattle.semantics.specs.FirstFollow.{First, Follow}
 use Rattle.base.proofs.Strings.{take_short}
-use Rattle.semantics.proofs.families.First.{first-lookahead}
-use Rattle.semantics.proofs.families.Follow.{follow-lookahead}
-use Rattle.semantics.proofs.families.FollowCuts.{Cuts, follow-cuts}
+use Rattle.semantics.proofs.families.First.{first_lookahead}
+use Rattle.semantics.proofs.families.Follow.{follow_lookahead}
+use Rattle.semantics.proofs.families.FollowCuts.{Cuts, follow_cuts}
 
 -- a string of the first set and one of the second after it, cut to k
 abbrev pub Cut : ℕ → (List ℕ → Type 0) → (List ℕ → Type 0) → List ℕ → Type 0
 Cut k P Q x = (u : List ℕ) × (y : List ℕ) × P u × Q y × (x ≡ take k (u ++ y))
 
-take-one : (x : List ℕ) → length x ≤ 1 → take 1 x ≡ x
-take-one [] h = refl
-take-one (a ∷ []) h = refl
-take-one (a ∷ b ∷ x) h = absurd (omega arith)
+take_one : (x : List ℕ) → length x ≤ 1 → take 1 x ≡ x
+take_one [] h = refl
+take_one (a ∷ []) h = refl
+take_one (a ∷ b ∷ x) h = absurd (omega arith)
 
-pub cut-one : (P Q : List ℕ → Type 0) → ((x : List ℕ) → P x → length x ≤ 1) → ((x : List ℕ) → Q x → length x ≤ 1) → (x : List ℕ)
+pub cut_one : (P Q : List ℕ → Type 0) → ((x : List ℕ) → P x → length x ≤ 1) → ((x : List ℕ) → Q x → length x ≤ 1) → (x : List ℕ)
     → Cut 1 P Q x ↔ Strung P Q x
-cut-one P Q p q x = (λ c. there c.0 c.1 c.2 c.3 c.4, λ s. back s.0.0 s.0.1 s.1)
+cut_one P Q p q x = (λ c. there c.0 c.1 c.2 c.3 c.4, λ s. back s.0.0 s.0.1 s.1)
   where
     there : (u y : List ℕ) → P u → Q y → x ≡ take 1 (u ++ y) → Strung P Q x
-    there [] y a b e = ((y, b), inr (a, rw (e ∙ take-one y (q y b)) b))
+    there [] y a b e = ((y, b), inr (a, rw (e ∙ take_one y (q y b)) b))
     there (c ∷ []) y a b e = ((y, b), inl (rw e a, λ d. absurd (omega (arith, ap length (sym e ∙ d)))))
     there (c ∷ d ∷ u) y a b e = absurd (omega (arith, p (c ∷ d ∷ u) a))
 
@@ -41,33 +41,33 @@ cut-one P Q p q x = (λ c. there c.0 c.1 c.2 c.3 c.4, λ s. back s.0.0 s.0.1 s.1
         full [] h n = absurd (n refl)
         full (a ∷ []) h n = refl
         full (a ∷ c ∷ z) h n = absurd (omega arith)
-    back y b (inr s) = ([], x, s.0, s.1, sym (take-one x (q x s.1)))
+    back y b (inr s) = ([], x, s.0, s.1, sym (take_one x (q x s.1)))
 
-firstOf-short : (k : ℕ) (F : Family) → Short k F → (X : Symbol) (x : List ℕ) → FirstOf k F X x → length x ≤ k
-firstOf-short k F h (Terminal a) x f = rw f (take_short k (a ∷ []))
-firstOf-short k F h (Nonterminal A) x f = h A x f
+first_of_short : (k : ℕ) (F : Family) → Short k F → (X : Symbol) (x : List ℕ) → FirstOf k F X x → length x ≤ k
+first_of_short k F h (Terminal a) x f = rw f (take_short k (a ∷ []))
+first_of_short k F h (Nonterminal A) x f = h A x f
 
-firstBody-short : (k : ℕ) (F : Family) (b : Body) (x : List ℕ) → FirstBody k F b x → length x ≤ k
-firstBody-short k F [] x f = rw f (omega arith)
-firstBody-short k F (X ∷ b) x f = rw f.4 (take_short k (f.0 ++ f.1))
+first_body_short : (k : ℕ) (F : Family) (b : Body) (x : List ℕ) → FirstBody k F b x → length x ≤ k
+first_body_short k F [] x f = rw f (omega arith)
+first_body_short k F (X ∷ b) x f = rw f.4 (take_short k (f.0 ++ f.1))
 
 -- so a body strings the sets of its symbols
-pub body-strung : (F : Family) → Short 1 F → (X : Symbol) (b : Body) (x : List ℕ)
+pub body_strung : (F : Family) → Short 1 F → (X : Symbol) (b : Body) (x : List ℕ)
     → FirstBody 1 F (X ∷ b) x ↔ Strung (FirstOf 1 F X) (FirstBody 1 F b) x
-body-strung F h X b x = cut-one (FirstOf 1 F X) (FirstBody 1 F b) (firstOf-short 1 F h X) (firstBody-short 1 F b) x
+body_strung F h X b x = cut_one (FirstOf 1 F X) (FirstBody 1 F b) (first_of_short 1 F h X) (first_body_short 1 F b) x
 
 module _ (G : Grammar) where
-  follow-short : Short 1 (Follow G 1)
-  follow-short A x f = (follow-lookahead G 1 A x f).1.0
+  follow_short : Short 1 (Follow G 1)
+  follow_short A x f = (follow_lookahead G 1 A x f).1.0
 
   -- a body's FIRST set is that of its first symbol strung with that of the rest
-  pub first-strung : (X : Symbol) (b : Body) (x : List ℕ)
+  pub first_strung : (X : Symbol) (b : Body) (x : List ℕ)
       → FirstBody 1 (First G 1) (X ∷ b) x ↔ Strung (FirstOf 1 (First G 1) X) (FirstBody 1 (First G 1) b) x
-  first-strung = body-strung (First G 1) (λ A x f. (first-lookahead G 1 A x f).1.0)
+  first_strung = body_strung (First G 1) (λ A x f. (first_lookahead G 1 A x f).1.0)
 
   -- a family of such strings is closed as FOLLOW is to be just where it holds what comes after a nonterminal strung with what can follow the head
-  pub follow-strung : (L : Family) → Short 1 L → FollowClosed G 1 (First G 1) L ↔ FollowStrung G (First G 1) L
-  follow-strung L short = (
+  pub follow_strung : (L : Family) → Short 1 L → FollowClosed G 1 (First G 1) L ↔ FollowStrung G (First G 1) L
+  follow_strung L short = (
     λ h. record {
       start = h.start;
       follows = λ r m front A b n x s.
@@ -83,15 +83,15 @@ module _ (G : Grammar) where
   )
     where
       strung : (A : ℕ) (b : Body) (x : List ℕ) → Cut 1 (FirstBody 1 (First G 1) b) (L A) x ↔ Strung (FirstBody 1 (First G 1) b) (L A) x
-      strung A b = cut-one (FirstBody 1 (First G 1) b) (L A) (firstBody-short 1 (First G 1) b) (short A)
+      strung A b = cut_one (FirstBody 1 (First G 1) b) (L A) (first_body_short 1 (First G 1) b) (short A)
 
       cuts : (y : List ℕ) (b : Body) → FollowBody 1 (First G 1) L y b ↔ Cuts 1 (First G 1) L y b
-      cuts y b = follow-cuts 1 (First G 1) L y b
+      cuts y b = follow_cuts 1 (First G 1) L y b
 
   -- a rule claims the meeting of its positive bodies' sets strung with FOLLOW of its head
-  pub claims-strung : (q A : ℕ) (x : List ℕ) → Claims G 1 (First G 1) (Follow G 1) q A x
+  pub claims_strung : (q A : ℕ) (x : List ℕ) → Claims G 1 (First G 1) (Follow G 1) q A x
       ↔ ((r : Rule) × (get_elem? G.rules q ≡ some r) × (r.head ≡ A) × Strung (Meeting G 1 (First G 1) r) (Follow G 1 A) x)
-  claims-strung q A x = (
+  claims_strung q A x = (
     λ c. (c.rule, c.numbered, c.heads, (strung c.rule).0 (c.begins, c.behind, (c.lookahead, c.meets), c.follows, c.makes)),
     λ s.
         let c = (strung s.0).1 s.3 in
@@ -109,4 +109,4 @@ module _ (G : Grammar) where
   )
     where
       strung : (r : Rule) → Cut 1 (Meeting G 1 (First G 1) r) (Follow G 1 A) x ↔ Strung (Meeting G 1 (First G 1) r) (Follow G 1 A) x
-      strung r = cut-one (Meeting G 1 (First G 1) r) (Follow G 1 A) (λ u m. m.0.0) (follow-short A) x
+      strung r = cut_one (Meeting G 1 (First G 1) r) (Follow G 1 A) (λ u m. m.0.0) (follow_short A) x

@@ -5,44 +5,44 @@ use Prim.Native.Nat.{ℕ, ◌<◌}
 use lib.Dec.{T, eqb, eqb→eq}
 use Rattle.word.specs.declared.Symbol.TheVariants.{Terminal, Nonterminal}
 use Rattle.grammar.specs.Syntax.{Body, Grammar, WellScoped}
-use Rattle.base.specs.FiniteSets.{numbersBelow}
+use Rattle.base.specs.FiniteSets.{numbers_below}
 use Rattle.base.specs.Rounds.{NumberSet, ◌⊆ᵇ◌}
-use Rattle.semantics.specs.LeftRecursion.{allNullable, nullStep, nullable}
-use Rattle.base.proofs.Booleans.{and_l, and_r, and-make}
-use Rattle.base.proofs.Quantified.{all_map, any-map, any-elim}
-use Rattle.base.proofs.FiniteSets.{numbers-equality, numbers-make}
-use Rattle.base.proofs.Rounds.{least-least, least-closed}
+use Rattle.semantics.specs.LeftRecursion.{all_nullable, null_step, nullable}
+use Rattle.base.proofs.Booleans.{and_l, and_r, and_make}
+use Rattle.base.proofs.Quantified.{all_map, any_map, any_elim}
+use Rattle.base.proofs.FiniteSets.{numbers_equality, numbers_make}
+use Rattle.base.proofs.Rounds.{least_least, least_closed}
 
-allNullable-mono : (s s' : NumberSet) → s ⊆ᵇ s' → (b : Body) → T (allNullable s b) → T (allNullable s' b)
-unfolding allNullable
-allNullable-mono s s' h [] t = tt
-allNullable-mono s s' h (Terminal a ∷ b) t = t
-allNullable-mono s s' h (Nonterminal A ∷ b) t =
-    and-make (s' A) (allNullable s' b) (h A (and_l (s A) (allNullable s b) t)) (allNullable-mono s s' h b (and_r (s A) (allNullable s b) t))
+all_nullable_mono : (s s' : NumberSet) → s ⊆ᵇ s' → (b : Body) → T (all_nullable s b) → T (all_nullable s' b)
+unfolding all_nullable
+all_nullable_mono s s' h [] t = tt
+all_nullable_mono s s' h (Terminal a ∷ b) t = t
+all_nullable_mono s s' h (Nonterminal A ∷ b) t =
+    and_make (s' A) (all_nullable s' b) (h A (and_l (s A) (all_nullable s b) t)) (all_nullable_mono s s' h b (and_r (s A) (all_nullable s b) t))
 
 module _ (G : Grammar) where
-  nullStep-mono : (s s' : NumberSet) → s ⊆ᵇ s' → nullStep G s ⊆ᵇ nullStep G s'
-  unfolding nullStep
-  nullStep-mono s s' h A t = any-map _ _ G.rules (λ r m u.
-      and-make (eqb r.head A) _ (and_l (eqb r.head A) _ u)
-      (all_map (allNullable s) (allNullable s') _ (λ b _. allNullable-mono s s' h b) (and_r (eqb r.head A) _ u))) t
+  null_step_mono : (s s' : NumberSet) → s ⊆ᵇ s' → null_step G s ⊆ᵇ null_step G s'
+  unfolding null_step
+  null_step_mono s s' h A t = any_map _ _ G.rules (λ r m u.
+      and_make (eqb r.head A) _ (and_l (eqb r.head A) _ u)
+      (all_map (all_nullable s) (all_nullable s') _ (λ b _. all_nullable_mono s s' h b) (and_r (eqb r.head A) _ u))) t
 
   -- the least set: any set that is closed holds it
-  pub nullable-least : (s : NumberSet) → nullStep G s ⊆ᵇ s → nullable G ⊆ᵇ s
+  pub nullable_least : (s : NumberSet) → null_step G s ⊆ᵇ s → nullable G ⊆ᵇ s
   unfolding nullable
-  nullable-least = least-least eqb numbers-equality (numbersBelow G.nonterminals) (nullStep G) nullStep-mono
+  nullable_least = least_least eqb numbers_equality (numbers_below G.nonterminals) (null_step G) null_step_mono
 
   module _ (c : WellScoped G) where
-    head-below : (s : NumberSet) (A : ℕ) → T (nullStep G s A) → A < G.nonterminals
-    unfolding nullStep
-    head-below s A t =
-        let r = any-elim _ G.rules t in
+    head_below : (s : NumberSet) (A : ℕ) → T (null_step G s A) → A < G.nonterminals
+    unfolding null_step
+    head_below s A t =
+        let r = any_elim _ G.rules t in
         let e : r.0.head ≡ A = eqb→eq r.0.head A (and_l (eqb r.0.head A) _ r.2) in
         rw e at (c.heads r.0 r.1)
 
     -- whatever the rules make nullable is in the set
-    pub nullable-closed : nullStep G (nullable G) ⊆ᵇ nullable G
+    pub nullable_closed : null_step G (nullable G) ⊆ᵇ nullable G
     unfolding nullable
-    nullable-closed A t =
-        let m = numbers-make G.nonterminals A (head-below (nullable G) A t) in
-        least-closed eqb numbers-equality (numbersBelow G.nonterminals) (nullStep G) nullStep-mono A m t
+    nullable_closed A t =
+        let m = numbers_make G.nonterminals A (head_below (nullable G) A t) in
+        least_closed eqb numbers_equality (numbers_below G.nonterminals) (null_step G) null_step_mono A m t

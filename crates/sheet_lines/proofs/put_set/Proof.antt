@@ -1,6 +1,6 @@
 -- The number of elements is put behind the set.
 use Rattle.text.proofs.Writing.{put_then}
-use Rattle.sheet_lines.proofs.Lines.{set-put}
+use Rattle.sheet_lines.proofs.Lines.{set_put}
 use borrow.Author.Rules.{rules}
 use Rattle.sheet_lines.proofs.put_set.Statement.{statement}
 use Rattle.sheet_lines.proofs.put_set.Tie as tie
@@ -30,7 +30,7 @@ returns c =
     let last = at_before.before in
     let members = last.before in
     let first = members.before.before.before.before.before in
-    set-put start.args.label.now start.args.bits members.size.ensures
+    set_put start.args.label.now start.args.bits members.size.ensures
     (put_then first.put-labelled.ensures last.put-labelled2.ensures)
 
 pub put-set-spec : {M : Type 1} → statement M

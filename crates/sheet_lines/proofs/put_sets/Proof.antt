@@ -1,6 +1,6 @@
 -- The two sets are put behind the nonterminal.
 use Rattle.text.proofs.Writing.{put_then}
-use Rattle.sheet_lines.proofs.Lines.{sets-put}
+use Rattle.sheet_lines.proofs.Lines.{sets_put}
 use borrow.Author.Rules.{rules}
 use Rattle.sheet_lines.proofs.put_sets.Statement.{statement}
 use Rattle.sheet_lines.proofs.put_sets.Tie as tie
@@ -55,7 +55,7 @@ returns c =
     let first = second.before.before.before.before.before in
     let begun = first.before.before.before in
     let begin = begun.before in
-    sets-put _ _ begin.word_at.ensures begun.word-at2.ensures
+    sets_put _ _ begin.word_at.ensures begun.word-at2.ensures
     (put_then (put_then (put_then first.put-labelled.ensures second.put-set.ensures) third.put-set2.ensures) last.put-bytes.ensures)
 
 pub put-sets-spec : {M : Type 1} → statement M

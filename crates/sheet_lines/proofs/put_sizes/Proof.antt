@@ -1,6 +1,6 @@
 -- The three numbers are put one behind the other.
 use Rattle.text.proofs.Writing.{put_then}
-use Rattle.sheet_lines.specs.Lines.{sizesLine}
+use Rattle.sheet_lines.specs.Lines.{sizes_line}
 use borrow.Author.Rules.{rules}
 use Rattle.sheet_lines.proofs.put_sizes.Statement.{statement}
 use Rattle.sheet_lines.proofs.put_sizes.Tie as tie
@@ -39,7 +39,7 @@ same_length : tie.Need-same-length
 same_length c = search rules
 
 returns : tie.Need-returns
-unfolding sizesLine
+unfolding sizes_line
 returns c =
     let last = c.before.before in
     let third = last.before.before.before.before.before in

@@ -1,5 +1,5 @@
 -- By what is found: a refusal, or the sheet of sizes within the limits.
-use Rattle.sheet_text.proofs.Limited.{limited-sizes}
+use Rattle.sheet_text.proofs.Limited.{limited_sizes_lem}
 use borrow.Author.Rules.{rules}
 use Rattle.sheet_text.proofs.put_check.Statement.{statement}
 use Rattle.sheet_text.proofs.put_check.Tie as tie
@@ -17,7 +17,7 @@ limited-sizes-requires : tie.Need-limited-sizes-requires
 limited-sizes-requires c κs = search rules
 
 put-sheet-requires : tie.Need-put-sheet-requires
-put-sheet-requires c κs = rw c.limited-sizes.ensures (limited-sizes _)
+put-sheet-requires c κs = rw c.limited_sizes.ensures (limited_sizes_lem _)
 
 same_length : tie.Need-same-length
 same_length c = search rules
@@ -35,7 +35,7 @@ returns-2 : tie.Need-returns-2
 returns-2 c =
     let at-sheet = c.before.before in
     let at-sizes = at-sheet.before in
-    rw (at-sizes.before.before.before.finding2.given.1, ← at-sizes.limited-sizes.ensures) at-sheet.put-sheet.ensures
+    rw (at-sizes.before.before.before.finding2.given.1, ← at-sizes.limited_sizes.ensures) at-sheet.put-sheet.ensures
 
 pub put-check-spec : {M : Type 1} → statement M
 put-check-spec =

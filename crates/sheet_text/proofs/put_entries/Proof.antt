@@ -1,6 +1,6 @@
 -- The row is put behind its label.
 use Rattle.text.proofs.Writing.{put_then}
-use Rattle.sheet_text.specs.Sheet.{entriesLine}
+use Rattle.sheet_text.specs.Sheet.{entries_line}
 use borrow.Author.Rules.{rules}
 use Rattle.sheet_text.proofs.put_entries.Statement.{statement}
 use Rattle.sheet_text.proofs.put_entries.Tie as tie
@@ -24,7 +24,7 @@ same_length : tie.Need-same-length
 same_length c = search rules
 
 returns : tie.Need-returns
-unfolding entriesLine
+unfolding entries_line
 returns c =
     let last = c.before.before in
     let row = last.before.before.before.before.before in

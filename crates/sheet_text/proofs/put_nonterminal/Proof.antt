@@ -2,7 +2,7 @@
 use native.Mathlib.Omega.{arith}
 use Rattle.text.proofs.Writing.{put_then}
 use Rattle.sheet_text.proofs.Rows.{row_within}
-use Rattle.sheet_text.specs.Sheet.{nonterminalText}
+use Rattle.sheet_text.specs.Sheet.{nonterminal_text}
 use borrow.Author.Rules.{rules}
 use Rattle.sheet_text.proofs.put_nonterminal.Statement.{statement}
 use Rattle.sheet_text.proofs.put_nonterminal.Tie as tie
@@ -53,7 +53,7 @@ same_length : tie.Need-same-length
 same_length c = search rules
 
 returns : tie.Need-returns
-unfolding nonterminalText
+unfolding nonterminal_text
 returns c =
     let at-put-entries = c.before.before in
     let at-put-sets = at-put-entries.before.before.before.before in

@@ -1,5 +1,5 @@
 -- The lines of the nonterminals are put behind that of the sizes.
-use Rattle.sheet_text.specs.Sheet.{sheetText}
+use Rattle.sheet_text.specs.Sheet.{sheet_text}
 use Rattle.text.proofs.Writing.{put_then}
 use borrow.Author.Rules.{rules}
 use Rattle.sheet_text.proofs.put_sheet.Statement.{statement}
@@ -15,7 +15,7 @@ same_length : tie.Need-same-length
 same_length c = search rules
 
 returns : tie.Need-returns
-unfolding sheetText
+unfolding sheet_text
 returns c =
     let last = c.before.before in
     let first = last.before.before.before.before in

@@ -1,5 +1,5 @@
 -- By the test.
-use Rattle.tabular_promises.specs.contracts.Chart.{withNonterminal}
+use Rattle.tabular_promises.specs.inner.Chart.{with_nonterminal}
 use Rattle.span_words.proofs.found_by.Statement.{statement}
 use Rattle.span_words.proofs.found_by.Tie as tie
 
@@ -7,11 +7,11 @@ one-nonterminal-requires : tie.Need-one-nonterminal-requires
 one-nonterminal-requires c κs = tt
 
 returns : tie.Need-returns
-unfolding withNonterminal
-returns c = rw (c.before.if1.true, c.one-nonterminal.ensures)
+unfolding with_nonterminal
+returns c = rw (c.before.if1.true, c.one_nonterminal.ensures)
 
 returns-2 : tie.Need-returns-2
-unfolding withNonterminal
+unfolding with_nonterminal
 returns-2 c = rw c.if1.false
 
 pub found-by-spec : {M : Type 1} → statement M

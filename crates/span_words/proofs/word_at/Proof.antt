@@ -2,25 +2,25 @@
 use mathlib.Core.Path.{◌≡◌, ◌∙◌}
 use Prim.Native.Nat.{◌-◌, ◌≤◌}
 use native.Mathlib.Omega.{arith}
-use Rattle.tabular_promises.specs.contracts.Chart.{foundWord}
-use Rattle.tabular_promises.proofs.Charts.{word-start, word_more, word-of-many, word-beyond, word-within}
+use Rattle.tabular_promises.specs.inner.Chart.{found_word}
+use Rattle.tabular_promises.proofs.Charts.{word_start, word_more, word_of_many, word_beyond, word_within}
 use Rattle.span_words.proofs.word_at.Statement.{statement}
 use Rattle.span_words.proofs.word_at.Tie as tie
 
 abbrev invariant-loop : tie.invariant-loop
-invariant-loop chart nonterminals start end word₀ at₀ word at = (at ≤ nonterminals) × (word ≡ foundWord chart at start end)
+invariant-loop chart nonterminals start end word₀ at₀ word at = (at ≤ nonterminals) × (word ≡ found_word chart at start end)
 
 abbrev decreases-loop : tie.decreases-loop
 decreases-loop chart nonterminals start end word₀ at₀ word at = nonterminals - at
 
 returns : tie.Need-returns invariant-loop decreases-loop
-returns c = word-of-many _ _ _ _ c.if1.true
+returns c = word_of_many _ _ _ _ c.if1.true
 
 returns-2 : tie.Need-returns-2 invariant-loop decreases-loop
-returns-2 c = word-beyond _ _ _ _ c.before.if1.false c.if2.true
+returns-2 c = word_beyond _ _ _ _ c.before.if1.false c.if2.true
 
 loop-holds : tie.Need-loop-init invariant-loop decreases-loop
-loop-holds c = (omega arith, word-start _ _ _)
+loop-holds c = (omega arith, word_start _ _ _)
 
 cast-contains : tie.Need-overflow-cast-contains invariant-loop decreases-loop
 cast-contains c = omega arith
@@ -61,7 +61,7 @@ returns-3 : tie.Need-returns-3 invariant-loop decreases-loop
 returns-3 c =
     let within = c.before.before in
     let e : c.before.loop.at ≡ within.before.before.args.nonterminals = omega (arith, c.before.loop.invariant.0, c.loop-test.false) in
-    rw e at c.before.loop.invariant.1 ∙ word-within _ _ _ _ within.before.if1.false within.if2.false
+    rw e at c.before.loop.invariant.1 ∙ word_within _ _ _ _ within.before.if1.false within.if2.false
 
 pub word-at-spec : {M : Type 1} → statement M
 word-at-spec =

@@ -2,24 +2,24 @@
 use Prim.Native.Nat.{◌-◌}
 use native.Mathlib.Omega.{arith}
 use mathlib.Core.Path.{refl}
-use Rattle.tabular_promises.specs.contracts.Chart.{spanWord}
-use Rattle.tabular_promises.specs.contracts.Spans.{spanCount}
-use Rattle.tabular_promises.proofs.Writing.{count_low, Writing, writing_start, at_low, at_room, row_on, row-end, written, not-of-long, not-in-short}
-use Rattle.tabular_promises.proofs.Writing.{all-written}
+use Rattle.tabular_promises.specs.inner.Chart.{span_word}
+use Rattle.tabular_promises.specs.inner.Spans.{span_count}
+use Rattle.tabular_promises.proofs.Writing.{count_low, Writing, writing_start, at_low, at_room, row_on, row_end, written, not_of_long, not_in_short}
+use Rattle.tabular_promises.proofs.Writing.{all_written}
 use Rattle.span_words.proofs.write.Statement.{statement}
 use Rattle.span_words.proofs.write.Tie as tie
 
 abbrev invariant-loop : tie.invariant-loop
-invariant-loop chart nonterminals tokens spans₀ at₀ start₀ end₀ spans at start end = Writing tokens (spanWord chart nonterminals) spans₀ spans at start end
+invariant-loop chart nonterminals tokens spans₀ at₀ start₀ end₀ spans at start end = Writing tokens (span_word chart nonterminals) spans₀ spans at start end
 
 abbrev decreases-loop : tie.decreases-loop
-decreases-loop chart nonterminals tokens spans₀ at₀ start₀ end₀ spans at start end = spanCount tokens - at
+decreases-loop chart nonterminals tokens spans₀ at₀ start₀ end₀ spans at start end = span_count tokens - at
 
 returns : tie.Need-returns invariant-loop decreases-loop
-returns c = not-of-long _ _ _ _ c.if1.true
+returns c = not_of_long _ _ _ _ c.if1.true
 
 returns-2 : tie.Need-returns-2 invariant-loop decreases-loop
-returns-2 c = not-in-short _ _ _ _ c.before.if1.false c.if2.true
+returns-2 c = not_in_short _ _ _ _ c.before.if1.false c.if2.true
 
 loop-holds : tie.Need-loop-init invariant-loop decreases-loop
 loop-holds c = writing_start _ _ _
@@ -74,7 +74,7 @@ loop-again-2 : tie.Need-loop-preserved-2 invariant-loop decreases-loop
 loop-again-2 c =
     let room = c.before.before.before.before in
     let test = c.before.before.loop-test.true in
-    row-end c.before.before.before.loop.invariant room.before.if1.false room.if2.false test c.before.word_at.ensures refl c.if3.false
+    row_end c.before.before.before.loop.invariant room.before.if1.false room.if2.false test c.before.word_at.ensures refl c.if3.false
 
 same_length : tie.Need-same-length invariant-loop decreases-loop
 same_length c = c.before.loop.invariant.long
@@ -82,7 +82,7 @@ same_length c = c.before.loop.invariant.long
 returns-3 : tie.Need-returns-3 invariant-loop decreases-loop
 returns-3 c =
     let room = c.before.before in
-    all-written _ _ _ _ room.before.if1.false room.if2.false (written c.before.loop.invariant c.loop-test.false)
+    all_written _ _ _ _ room.before.if1.false room.if2.false (written c.before.loop.invariant c.loop-test.false)
 
 pub write_spec : {M : Type 1} → statement M
 write_spec =

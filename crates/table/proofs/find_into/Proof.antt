@@ -1,7 +1,7 @@
 -- An encoded grammar: by whether its claims are found, and whether an entry clashes.
 use borrow.Author.Rules.{rules}
-use Rattle.claims.proofs.Findings.{claims-told}
-use Rattle.table.proofs.Analyzing.{headed, sizes-few, overruns-long, found-refused, found-clash, found_passed}
+use Rattle.claims.proofs.Findings.{claims_told}
+use Rattle.table.proofs.Analyzing.{headed, sizes_few, overruns_long, found_refused, found_clash, found_passed}
 use Rattle.table.proofs.find_into.Statement.{statement}
 use Rattle.table.proofs.find_into.Tie as tie
 
@@ -15,13 +15,13 @@ enum_told : tie.Need-enum-told
 enum_told c = search rules
 
 returns : tie.Need-returns
-returns c = found-refused _ _ c.before.before.before.analyze.ensures c.before.enum_told.given.1
+returns c = found_refused _ _ c.before.before.before.analyze.ensures c.before.enum_told.given.1
 
 first-conflict-requires : tie.Need-first-conflict-requires
 first-conflict-requires c κs =
     let at-finding = c.before.before.before in
-    let found = claims-told _ _ at-finding.before.before.analyze.ensures at-finding.finding.given.1 in
-    (headed found, sizes-few found, overruns-long found)
+    let found = claims_told _ _ at-finding.before.before.analyze.ensures at-finding.finding.given.1 in
+    (headed found, sizes_few found, overruns_long found)
 
 enum-known-conflict : tie.Need-enum-known-conflict
 enum-known-conflict c = search rules
@@ -33,15 +33,15 @@ rows-requires : tie.Need-rows-requires
 rows-requires c κs =
     let at-first-conflict = c.before.before.before.before.before in
     let at-finding = at-first-conflict.before.before.before.before in
-    let found = claims-told _ _ at-finding.before.before.analyze.ensures at-finding.finding.given.1 in
-    record { headed = headed found; fewTerminals = sizes-few found }
+    let found = claims_told _ _ at-finding.before.before.analyze.ensures at-finding.finding.given.1 in
+    record { headed = headed found; few_terminals = sizes_few found }
 
 returns-2 : tie.Need-returns-2
 returns-2 c =
     let at-enum-told2 = c.before.before.before.before in
     let at-first-conflict = at-enum-told2.before.before in
     let at-finding = at-first-conflict.before.before.before.before in
-    let found = claims-told _ _ at-finding.before.before.analyze.ensures at-finding.finding.given.1 in
+    let found = claims_told _ _ at-finding.before.before.analyze.ensures at-finding.finding.given.1 in
     found_passed found at-first-conflict.first-conflict.ensures at-enum-told2.enum-told2.given.1 c.rows.ensures
 
 conflict-error-requires : tie.Need-conflict-error-requires
@@ -52,8 +52,8 @@ returns-3 c =
     let at-conflict = c.before.before.before in
     let at-first-conflict = at-conflict.before.before in
     let at-finding = at-first-conflict.before.before.before.before in
-    let found = claims-told _ _ at-finding.before.before.analyze.ensures at-finding.finding.given.1 in
-    found-clash found at-first-conflict.first-conflict.ensures at-conflict.conflict.given.1 c.conflict-error.ensures
+    let found = claims_told _ _ at-finding.before.before.analyze.ensures at-finding.finding.given.1 in
+    found_clash found at-first-conflict.first-conflict.ensures at-conflict.conflict.given.1 c.conflict-error.ensures
 
 pub find-into-spec : {M : Type 1} → statement M
 find-into-spec =

@@ -1,5 +1,5 @@
 -- What is refused stays so; for any other grammar and input every span is tabulated.
-use Rattle.tabular_promises.proofs.Judged.{judge-found-refused, tabulate-given, judge-done}
+use Rattle.tabular_promises.proofs.Judged.{judge_found_refused, tabulate_given, judge_done}
 use Rattle.tabular.proofs.judge_found.Statement.{statement}
 use Rattle.tabular.proofs.judge_found.Tie as tie
 
@@ -13,13 +13,13 @@ tabulate-requires : tie.Need-tabulate-requires
 tabulate-requires c κs =
     let at-finding = c.before.before in
     let start = at-finding.before.before.before.before.before in
-    tabulate-given start.requires at-finding.finding2.given.1
+    tabulate_given start.requires at-finding.finding2.given.1
 
 returns : tie.Need-returns
 returns c =
     let at-finding = c.before in
     let start = at-finding.before.before.before.before.before in
-    judge-found-refused start.requires at-finding.finding.given.1
+    judge_found_refused start.requires at-finding.finding.given.1
 
 same_length : tie.Need-same-length
 same_length c = c.before.spans.given
@@ -29,7 +29,7 @@ returns-2 c =
     let at-tabulate = c.before.before in
     let at-finding = at-tabulate.before.before.before in
     let start = at-finding.before.before.before.before.before in
-    judge-done start.requires at-finding.finding2.given.1 at-tabulate.tabulate.ensures
+    judge_done start.requires at-finding.finding2.given.1 at-tabulate.tabulate.ensures
 
 pub judge-found-spec : {M : Type 1} → statement M
 judge-found-spec =

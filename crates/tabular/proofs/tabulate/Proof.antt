@@ -1,6 +1,6 @@
 -- The chart is filled and written out.
 use mathlib.Core.Path.{sym}
-use Rattle.event.proofs.Inputs.{input-length}
+use Rattle.event.proofs.Inputs.{input_length}
 use Rattle.tabular_promises.proofs.Tabulating.{tabulated}
 use Rattle.tabular.proofs.tabulate.Statement.{statement}
 use Rattle.tabular.proofs.tabulate.Tie as tie
@@ -23,7 +23,7 @@ returns c =
     let at_fill_lem = at-write.before.before.before in
     let start = at_fill_lem.before.before.before.before in
     let given = start.requires.given in
-    let length = input-length start.args.events.now in
+    let length = input_length start.args.events.now in
     tabulated given.rules.read at_fill_lem.fill.ensures given.input.short start.requires.room (sym length)
     at-write.write.ensures c.verdict.ensures
 

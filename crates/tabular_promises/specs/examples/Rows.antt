@@ -1,20 +1,20 @@
 -- Judged inputs with the words of their spans: what the promise tells of them, where the lent words are just enough.
 use Rattle.std.specs.Prelude.{List, [], ◌∷◌, ℕ}
 use Rattle.answer.specs.Numbers.{Verdict, accepted, rejected, Numbers, answered, numbers}
-use Rattle.answer.specs.Faults.{refusedOr}
-use Rattle.grammar.specs.examples.Cards.{wordsR, wordsE}
-use Rattle.grammar.specs.Encoding.{grammarOf}
-use Rattle.grammar.specs.Limits.{maxSpanWords}
-use Rattle.promises.specs.Memory.{lentBack}
-use Rattle.tabular_promises.specs.Answers.{tabularFault, tabularVerdict, tabularWords}
+use Rattle.answer.specs.Faults.{refused_or}
+use Rattle.grammar.specs.examples.Cards.{words_r, words_e}
+use Rattle.grammar.specs.Encoding.{grammar_of}
+use Rattle.grammar.specs.Limits.{max_span_words}
+use Rattle.promises.specs.Memory.{lent_back}
+use Rattle.tabular_promises.specs.Answers.{tabular_fault, tabular_verdict, tabular_words}
 
 -- S → a | a, which claims an entry twice
-abbrev pub wordsTwice : List ℕ
-wordsTwice = 0x10000101 ∷ 0x20000000 ∷ 0x30000000 ∷ 0x50000000 ∷ 0x20000000 ∷ 0x30000000 ∷ 0x50000000 ∷ 0x70000000 ∷ []
+abbrev pub words_twice : List ℕ
+words_twice = 0x10000101 ∷ 0x20000000 ∷ 0x30000000 ∷ 0x50000000 ∷ 0x20000000 ∷ 0x30000000 ∷ 0x50000000 ∷ 0x70000000 ∷ []
 
 -- S → a S a, S → ¬ a: a letter follows the name of a rule without positives
-abbrev pub wordsOverrun : List ℕ
-wordsOverrun =
+abbrev pub words_overrun : List ℕ
+words_overrun =
     0x10000101 ∷ 0x20000000 ∷ 0x30000000 ∷ 0x50000000 ∷ 0x60000000 ∷ 0x50000000 ∷ 0x20000000 ∷ 0x40000000 ∷ 0x50000000 ∷ 0x70000000 ∷ []
 
 pub record Row : Type 0 where
@@ -28,15 +28,15 @@ row words w verdict spans = record { words = words; input = w; told = answered v
 
 abbrev pub worked : List Row
 worked =
-    row wordsR [] accepted (1 ∷ [])
-    ∷ row wordsR (0 ∷ []) accepted (1 ∷ 1 ∷ 1 ∷ [])
-    ∷ row wordsTwice (0 ∷ []) accepted (0 ∷ 1 ∷ 0 ∷ [])
-    ∷ row wordsOverrun (0 ∷ 0 ∷ []) accepted (1 ∷ 0 ∷ 1 ∷ 1 ∷ 0 ∷ 1 ∷ [])
-    ∷ row wordsE (1 ∷ 0 ∷ []) rejected (8 ∷ 4 ∷ 0 ∷ 8 ∷ 6 ∷ 8 ∷ []) ∷ []
+    row words_r [] accepted (1 ∷ [])
+    ∷ row words_r (0 ∷ []) accepted (1 ∷ 1 ∷ 1 ∷ [])
+    ∷ row words_twice (0 ∷ []) accepted (0 ∷ 1 ∷ 0 ∷ [])
+    ∷ row words_overrun (0 ∷ 0 ∷ []) accepted (1 ∷ 0 ∷ 1 ∷ 1 ∷ 0 ∷ 1 ∷ [])
+    ∷ row words_e (1 ∷ 0 ∷ []) rejected (8 ∷ 4 ∷ 0 ∷ 8 ∷ 6 ∷ 8 ∷ []) ∷ []
 
 -- what is answered, and the words in front of those that stay
 unfoldable pub judged : List ℕ → List ℕ → Numbers
-judged words w = numbers (refusedOr (tabularFault maxSpanWords words w) (tabularVerdict (grammarOf words) w))
+judged words w = numbers (refused_or (tabular_fault max_span_words words w) (tabular_verdict (grammar_of words) w))
 
 unfoldable pub lent : List ℕ → List ℕ → List ℕ
-lent words w = lentBack (tabularFault maxSpanWords words w) (tabularWords (grammarOf words) w) []
+lent words w = lent_back (tabular_fault max_span_words words w) (tabular_words (grammar_of words) w) []

@@ -5,20 +5,20 @@ use Prim.Native.Nat.{◌-◌, ◌≤◌}
 use native.Mathlib.Omega.{arith}
 use lib.ListN.{length}
 use Rattle.event.specs.Events.{input_of}
-use Rattle.event.proofs.Inputs.{input-length}
-use Rattle.tabular_promises.specs.contracts.Places.{standsTo}
-use Rattle.tabular_promises.proofs.PlaceSets.{stands-start, stands-more, stands-nowhere}
+use Rattle.event.proofs.Inputs.{input_length}
+use Rattle.tabular_promises.specs.inner.Places.{stands_to}
+use Rattle.tabular_promises.proofs.PlaceSets.{stands_start, stands_more, stands_nowhere}
 use Rattle.terminal_places.proofs.standing.Statement.{statement}
 use Rattle.terminal_places.proofs.standing.Tie as tie
 
 abbrev invariant-loop : tie.invariant-loop
-invariant-loop events stands₀ at₀ stands at = (at ≤ length events) × (stands ≡ standsTo (input_of events) at)
+invariant-loop events stands₀ at₀ stands at = (at ≤ length events) × (stands ≡ stands_to (input_of events) at)
 
 abbrev decreases-loop : tie.decreases-loop
 decreases-loop events stands₀ at₀ stands at = length events - at
 
 loop-holds : tie.Need-loop-init invariant-loop decreases-loop
-loop-holds c = (omega arith, stands-start _)
+loop-holds c = (omega arith, stands_start _)
 
 shared-slice-read-terminal-of : tie.Need-shared-slice-read-terminal-of invariant-loop decreases-loop
 shared-slice-read-terminal-of c = c.before.loop-test.true
@@ -60,8 +60,8 @@ loop-again c =
     let token = at-terminal-of.terminal-of.ensures in (
       omega (arith, at-loop-test.loop-test.true),
       ⊎_elim
-          (λ w. w.2 ∙ stands-more events at-loop.loop.at before token w.1.ensures)
-          (λ w. w.1 ∙ stands-nowhere events at-loop.loop.at before token w.0.left)
+          (λ w. w.2 ∙ stands_more events at-loop.loop.at before token w.1.ensures)
+          (λ w. w.1 ∙ stands_nowhere events at-loop.loop.at before token w.0.left)
           c.if1.branch,
     )
 
@@ -69,7 +69,7 @@ returns : tie.Need-returns invariant-loop decreases-loop
 returns c =
     let events = c.before.before.before.args.events.now in
     c.before.loop.invariant.1
-    ∙ ap (standsTo (input_of events)) (omega (arith, c.before.loop.invariant.0, c.loop-test.false, input-length events))
+    ∙ ap (stands_to (input_of events)) (omega (arith, c.before.loop.invariant.0, c.loop-test.false, input_length events))
 
 pub standing-spec : {M : Type 1} → statement M
 standing-spec =

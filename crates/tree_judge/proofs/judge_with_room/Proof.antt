@@ -1,7 +1,7 @@
 -- The lengths are looked at one after the other; then it is judged.
 use borrow.Author.Rules.{rules}
 use Rattle.event.specs.Events.{input_of}
-use Rattle.tree_writer_promises.proofs.Showing.{short-table, short-memo, short-tree, judged-with-room}
+use Rattle.tree_writer_promises.proofs.Showing.{short_table, short_memo, short_tree, judged_with_room}
 use Rattle.tree_judge.proofs.judge_with_room.Statement.{statement}
 use Rattle.tree_judge.proofs.judge_with_room.Tie as tie
 
@@ -9,14 +9,14 @@ returns : tie.Need-returns
 returns c =
     let start = c.before.before.before.before.before in
     let given = start.args in
-    short-table given.words.now (input_of given.events.now) given.table.now given.memo.now given.room c.if1.true
+    short_table given.words.now (input_of given.events.now) given.table.now given.memo.now given.room c.if1.true
 
 returns-2 : tie.Need-returns-2
 returns-2 c =
     let at-if1 = c.before in
     let start = at-if1.before.before.before.before.before in
     let given = start.args in
-    short-memo given.words.now (input_of given.events.now) given.table.now given.memo.now given.room at-if1.if1.false c.if2.true
+    short_memo given.words.now (input_of given.events.now) given.table.now given.memo.now given.room at-if1.if1.false c.if2.true
 
 returns-3 : tie.Need-returns-3
 returns-3 c =
@@ -24,7 +24,7 @@ returns-3 c =
     let at-if1 = at-if2.before in
     let start = at-if1.before.before.before.before.before in
     let given = start.args in
-    short-tree given.words.now (input_of given.events.now) given.table.now given.memo.now given.room at-if1.if1.false
+    short_tree given.words.now (input_of given.events.now) given.table.now given.memo.now given.room at-if1.if1.false
     at-if2.if2.false c.if3.true
 
 judge-requires : tie.Need-judge-requires
@@ -44,7 +44,7 @@ returns-4 c =
     let at-if1 = at-if2.before in
     let start = at-if1.before.before.before.before.before in
     let given = start.args in
-    judged-with-room given.words.now (input_of given.events.now) given.table.now given.memo.now given.room at-if1.if1.false
+    judged_with_room given.words.now (input_of given.events.now) given.table.now given.memo.now given.room at-if1.if1.false
     at-if2.if2.false at-if3.if3.false at-judge.judge.ensures
 
 pub judge-with-room-spec : {M : Type 1} → statement M

@@ -1,6 +1,6 @@
 -- An answer that is no acceptance writes nothing; after an acceptance the lent memories are what the tree is written by.
 use borrow.Author.Rules.{rules}
-use Rattle.tree_writer_promises.proofs.Showing.{is-accepted, not-accepted, shows-none, show-given, shows-tree}
+use Rattle.tree_writer_promises.proofs.Showing.{is_accepted, not_accepted, shows_none, show_given, shows_tree}
 use Rattle.tree_writer.proofs.judge_tree.Statement.{statement}
 use Rattle.tree_writer.proofs.judge_tree.Tie as tie
 
@@ -20,15 +20,15 @@ returns : tie.Need-returns
 returns c =
     let at-judge = c.before.before.before.before.before in
     let start = at-judge.before.before.before.before.before.before.before.before in
-    shows-none start.args.tree.now at-judge.judge-with-room.ensures (not-accepted _ c.match.keys2)
+    shows_none start.args.tree.now at-judge.judge-with-room.ensures (not_accepted _ c.match.keys2)
 
 write-tree-requires : tie.Need-write-tree-requires
 write-tree-requires c κs =
     let at-match = c.before.before.before.before in
     let at-judge = at-match.before.before.before.before.before in
     let start = at-judge.before.before.before.before.before.before.before.before in
-    let a = is-accepted _ at-match.match.keys1 in
-    show-given start.args.tree.now at-judge.judge-with-room.ensures a.0 a.1
+    let a = is_accepted _ at-match.match.keys1 in
+    show_given start.args.tree.now at-judge.judge-with-room.ensures a.0 a.1
 
 same-length-3 : tie.Need-same-length-3
 same-length-3 c = search rules
@@ -45,8 +45,8 @@ returns-2 c =
     let at-match = at-write-tree.before.before.before.before.before in
     let at-judge = at-match.before.before.before.before.before in
     let start = at-judge.before.before.before.before.before.before.before.before in
-    let a = is-accepted _ at-match.match.keys1 in
-    shows-tree start.args.tree.now at-judge.judge-with-room.ensures a.0 a.1 at-write-tree.write-tree.ensures
+    let a = is_accepted _ at-match.match.keys1 in
+    shows_tree start.args.tree.now at-judge.judge-with-room.ensures a.0 a.1 at-write-tree.write-tree.ensures
 
 pub judge-tree-spec : {M : Type 1} → statement M
 judge-tree-spec =

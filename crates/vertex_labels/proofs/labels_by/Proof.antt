@@ -1,20 +1,20 @@
 -- The loop keeps: the words of the calls before the nonterminal and the place that it stands at are made.
 use Prim.Native.Nat.{◌+◌, ◌*◌, ◌-◌, ◌≤◌}
 use native.Mathlib.Omega.{arith}
-use Rattle.grammar.specs.Limits.{maxPlaces}
+use Rattle.grammar.specs.Limits.{max_places}
 use Rattle.event.specs.Events.{input_of}
-use Rattle.tree_writer_promises.specs.contracts.Labels.{LabelledBelow}
-use Rattle.tree_writer_promises.proofs.Labelling.{labels-start, labels-more, labels-place, labels-row, labels-all}
+use Rattle.tree_writer_promises.specs.inner.Labels.{LabelledBelow}
+use Rattle.tree_writer_promises.proofs.Labelling.{labels_start, labels_more, labels_place, labels_row, labels_all}
 use borrow.Author.Rules.{rules}
 use Rattle.vertex_labels.proofs.labels_by.Statement.{statement}
 use Rattle.vertex_labels.proofs.labels_by.Tie as tie
 
 abbrev invariant-loop : tie.invariant-loop
 invariant-loop sizes events table memo rows last labels₀ nonterminal₀ place₀ labels nonterminal place =
-    (nonterminal ≤ rows) × (place ≤ last) × LabelledBelow sizes (input_of events) table memo (nonterminal * maxPlaces + place) labels
+    (nonterminal ≤ rows) × (place ≤ last) × LabelledBelow sizes (input_of events) table memo (nonterminal * max_places + place) labels
 
 abbrev decreases-loop : tie.decreases-loop
-decreases-loop sizes events table memo rows last labels₀ nonterminal₀ place₀ labels nonterminal place = rows * maxPlaces - (nonterminal * maxPlaces + place)
+decreases-loop sizes events table memo rows last labels₀ nonterminal₀ place₀ labels nonterminal place = rows * max_places - (nonterminal * max_places + place)
 
 cast-fitting : tie.Need-overflow-cast-fitting invariant-loop decreases-loop
 cast-fitting c = search rules
@@ -31,7 +31,7 @@ fitting-requires-2 c κs = tt
 loop-holds : tie.Need-loop-init invariant-loop decreases-loop
 loop-holds c =
     let start = c.before.before.before.before.before.before in
-    (omega arith, omega arith, labels-start start.args.events.now)
+    (omega arith, omega arith, labels_start start.args.events.now)
 
 mul_at : tie.Need-overflow-mul-at invariant-loop decreases-loop
 mul_at c =
@@ -98,8 +98,8 @@ loop-again c =
     let events = start.args.events.now in (
       loop.loop.invariant.0,
       omega (arith, c.if1.true),
-      labels-place events loop.loop.nonterminal loop.loop.place
-          (labels-more events loop.loop.nonterminal loop.loop.place
+      labels_place events loop.loop.nonterminal loop.loop.place
+          (labels_more events loop.loop.nonterminal loop.loop.place
           (omega (arith, in-loop.loop-test.true, at_last.before.fitting.ensures))
           (omega (arith, loop.loop.invariant.1, at_last.fitting2.ensures)) loop.loop.invariant.2 c.before.label.ensures),
     )
@@ -124,10 +124,10 @@ loop-again-2 c =
     let events = start.args.events.now in (
       omega (arith, in-loop.loop-test.true),
       omega arith,
-      labels-row events loop.loop.nonterminal loop.loop.place
+      labels_row events loop.loop.nonterminal loop.loop.place
           (omega (arith, c.if1.false, at_last.fitting2.ensures))
           (omega (arith, loop.loop.invariant.1, at_last.fitting2.ensures))
-          (labels-more events loop.loop.nonterminal loop.loop.place
+          (labels_more events loop.loop.nonterminal loop.loop.place
           (omega (arith, in-loop.loop-test.true, at_last.before.fitting.ensures))
           (omega (arith, loop.loop.invariant.1, at_last.fitting2.ensures)) loop.loop.invariant.2 c.before.label.ensures),
     )
@@ -137,7 +137,7 @@ returns c =
     let loop = c.before in
     let at_last = loop.before in
     let start = at_last.before.before.before.before.before.before in
-    labels-all start.args.events.now loop.loop.nonterminal loop.loop.place
+    labels_all start.args.events.now loop.loop.nonterminal loop.loop.place
     (omega (arith, c.loop-test.false, at_last.before.fitting.ensures)) loop.loop.invariant.2
 
 pub labels-by-spec : {M : Type 1} → statement M

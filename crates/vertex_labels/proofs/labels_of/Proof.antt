@@ -1,6 +1,6 @@
 -- The words are read, and labelled by what is read.
 use Rattle.event.specs.Events.{input_of}
-use Rattle.tree_writer_promises.proofs.Labelling.{labels-read, labels-faulty}
+use Rattle.tree_writer_promises.proofs.Labelling.{labels_read_lem, labels_faulty}
 use Rattle.vertex_labels.proofs.labels_of.Statement.{statement}
 use Rattle.vertex_labels.proofs.labels_of.Tie as tie
 
@@ -19,7 +19,7 @@ returns c =
     let at_read = at-match.before in
     let start = at_read.before.before.before.before.before in
     let given = start.args in
-    labels-faulty (input_of given.events.now) given.table.now given.memo.now at_read.read.ensures at-match.match.keys2
+    labels_faulty (input_of given.events.now) given.table.now given.memo.now at_read.read.ensures at-match.match.keys2
 
 labels-by-requires : tie.Need-labels-by-requires
 labels-by-requires c κs = tt
@@ -30,7 +30,7 @@ returns-2 c =
     let at_read = at-outcome.before.before in
     let start = at_read.before.before.before.before.before in
     let given = start.args in
-    labels-read (input_of given.events.now) given.table.now given.memo.now at_read.read.ensures at-outcome.outcome.given.1
+    labels_read_lem (input_of given.events.now) given.table.now given.memo.now at_read.read.ensures at-outcome.outcome.given.1
     c.labels-by.ensures
 
 pub labels-of-spec : {M : Type 1} → statement M

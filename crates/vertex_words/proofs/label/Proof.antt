@@ -3,7 +3,7 @@ use Prim.Native.Nat.{◌+◌, ◌≤◌}
 use native.Mathlib.Nat.{mul-le-mul_right}
 use native.Mathlib.Omega.{arith}
 use lib.ListN.{length}
-use Rattle.tree_writer_promises.proofs.Labelling.{label-long, label-short}
+use Rattle.tree_writer_promises.proofs.Labelling.{label_long, label_short}
 use borrow.Author.Rules.{rules}
 use Rattle.vertex_words.proofs.label.Statement.{statement}
 use Rattle.vertex_words.proofs.label.Tie as tie
@@ -11,7 +11,7 @@ use Rattle.vertex_words.proofs.label.Tie as tie
 returns : tie.Need-returns
 returns c =
     let a = c.before.before.before.before.args in
-    label-long a.sizes a.events.now a.table.now a.memo.now a.nonterminal a.place c.if1.true
+    label_long a.sizes a.events.now a.table.now a.memo.now a.nonterminal a.place c.if1.true
 
 column-at-requires : tie.Need-column-at-requires
 column-at-requires c κs = search rules
@@ -86,8 +86,8 @@ returns-2 c =
     let at-column = at-word.before.before.before in
     let at-if = at-column.before in
     let a = at-if.before.before.before.before.args in
-    label-short a.sizes a.events.now a.table.now a.memo.now a.nonterminal a.place at-if.if1.false
-    at-column.column-at.ensures at-word.word_at.ensures c.before.entry_at.ensures c.vertex-word.ensures
+    label_short a.sizes a.events.now a.table.now a.memo.now a.nonterminal a.place at-if.if1.false
+    at-column.column_at.ensures at-word.word_at.ensures c.before.entry_at.ensures c.vertex-word.ensures
 
 pub label-spec : {M : Type 1} → statement M
 label-spec =

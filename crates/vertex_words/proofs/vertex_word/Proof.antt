@@ -1,6 +1,6 @@
 -- The fields lie side by side.
 use borrow.Author.Rules.{rules}
-use Rattle.tree.specs.Writing.{vertexWord}
+use Rattle.tree.specs.Writing.{vertex_word}
 use Rattle.vertex_words.proofs.vertex_word.Statement.{statement}
 use Rattle.vertex_words.proofs.vertex_word.Tie as tie
 
@@ -20,7 +20,7 @@ add-result-3 : tie.Need-overflow-add-result-3
 add-result-3 c = search rules
 
 returns : tie.Need-returns
-unfolding vertexWord
+unfolding vertex_word
 returns c = search rules
 
 pub vertex-word-spec : {M : Type 1} → statement M

@@ -1,6 +1,6 @@
 -- Decoding goes by the kind, row by row.
 use borrow.Author.Tests.{ne_eqb}
-use Rattle.word.specs.Words.{decoded, ofKind}
+use Rattle.word.specs.Words.{decoded, of_kind}
 use borrow.Author.Rules.{rules}
 use Rattle.word.proofs.decode.Statement.{statement}
 use Rattle.word.proofs.decode.Tie as tie
@@ -39,35 +39,35 @@ bare-requires-3 : tie.Need-bare-requires-3
 bare-requires-3 c κs = search rules
 
 returns : tie.Need-returns
-unfolding decoded ofKind
+unfolding decoded of_kind
 returns c = rw c.before.before.match.keys1 (rw c.before.payload.ensures at c.heading.ensures)
 
 returns-2 : tie.Need-returns-2
-unfolding decoded ofKind
+unfolding decoded of_kind
 returns-2 c = rw (c.before.match.keys2, c.payload2.ensures)
 
 returns-3 : tie.Need-returns-3
-unfolding decoded ofKind
+unfolding decoded of_kind
 returns-3 c = rw c.before.before.match.keys3 (rw c.before.payload3.ensures at c.bare.ensures)
 
 returns-4 : tie.Need-returns-4
-unfolding decoded ofKind
+unfolding decoded of_kind
 returns-4 c = rw c.before.before.match.keys4 (rw c.before.payload4.ensures at c.bare2.ensures)
 
 returns-5 : tie.Need-returns-5
-unfolding decoded ofKind
+unfolding decoded of_kind
 returns-5 c = rw (c.before.match.keys5, c.payload5.ensures)
 
 returns-6 : tie.Need-returns-6
-unfolding decoded ofKind
+unfolding decoded of_kind
 returns-6 c = rw (c.before.match.keys6, c.payload6.ensures)
 
 returns-7 : tie.Need-returns-7
-unfolding decoded ofKind
+unfolding decoded of_kind
 returns-7 c = rw c.before.before.match.keys7 (rw c.before.payload7.ensures at c.bare3.ensures)
 
 returns-8 : tie.Need-returns-8
-unfolding decoded ofKind
+unfolding decoded of_kind
 returns-8 c =
     let r = c.match.rest in
     simp (

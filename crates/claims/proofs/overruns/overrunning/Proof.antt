@@ -2,7 +2,7 @@
 use mathlib.Core.Path.{refl}
 use Prim.Native.Nat.{◌≤◌}
 use native.Mathlib.Omega.{arith}
-use Rattle.claims.proofs.OverrunRules.{Telling, conjunct-inside, rule-few, head_few, telling-start, telling-turn, telling-end}
+use Rattle.claims.proofs.OverrunRules.{Telling, conjunct_inside, rule_few, head_few, telling_start, telling_turn, telling_end}
 use Rattle.claims.proofs.overruns.overrunning.Statement.{statement}
 use Rattle.claims.proofs.overruns.overrunning.Tie as tie
 
@@ -13,34 +13,34 @@ abbrev decreases-loop : tie.decreases-loop
 decreases-loop words starts heads follows lookahead overruns₀ rule₀ overruns rule = rule
 
 loop-holds : tie.Need-loop-init invariant-loop decreases-loop
-loop-holds c = (omega arith, telling-start c.before.requires _ _)
+loop-holds c = (omega arith, telling_start c.before.requires _ _)
 
 sub-rule : tie.Need-overflow-sub-rule invariant-loop decreases-loop
 sub-rule c = omega (arith, c.loop-test.true)
 
 mul-conjunct : tie.Need-overflow-mul-conjunct invariant-loop decreases-loop
-mul-conjunct c = omega (arith, rule-few c.before.before.before.requires c.loop-test.true c.before.loop.invariant.0)
+mul-conjunct c = omega (arith, rule_few c.before.before.before.requires c.loop-test.true c.before.loop.invariant.0)
 
 element-copy-out-conjunct : tie.Need-element-copy-out-conjunct invariant-loop decreases-loop
-element-copy-out-conjunct c = omega (arith, rule-few c.before.before.before.requires c.loop-test.true c.before.loop.invariant.0)
+element-copy-out-conjunct c = omega (arith, rule_few c.before.before.before.requires c.loop-test.true c.before.loop.invariant.0)
 
 add-conjunct : tie.Need-overflow-add-conjunct invariant-loop decreases-loop
 add-conjunct c =
     let test = c.before in
     let loop = test.before in
-    omega (arith, conjunct-inside loop.before.before.requires test.loop-test.true loop.loop.invariant.0)
+    omega (arith, conjunct_inside loop.before.before.requires test.loop-test.true loop.loop.invariant.0)
 
 mul-decode : tie.Need-overflow-mul-decode invariant-loop decreases-loop
 mul-decode c =
     let test = c.before in
     let loop = test.before in
-    omega (arith, conjunct-inside loop.before.before.requires test.loop-test.true loop.loop.invariant.0)
+    omega (arith, conjunct_inside loop.before.before.requires test.loop-test.true loop.loop.invariant.0)
 
 shared-slice-read-decode : tie.Need-shared-slice-read-decode invariant-loop decreases-loop
 shared-slice-read-decode c =
     let test = c.before.before in
     let loop = test.before in
-    omega (arith, conjunct-inside loop.before.before.requires test.loop-test.true loop.loop.invariant.0)
+    omega (arith, conjunct_inside loop.before.before.requires test.loop-test.true loop.loop.invariant.0)
 
 decode-requires : tie.Need-decode-requires invariant-loop decreases-loop
 decode-requires c κs = tt
@@ -52,7 +52,7 @@ element-copy-out-head : tie.Need-element-copy-out-head invariant-loop decreases-
 element-copy-out-head c =
     let test = c.before.before.before.before in
     let loop = test.before in
-    omega (arith, rule-few loop.before.before.requires test.loop-test.true loop.loop.invariant.0)
+    omega (arith, rule_few loop.before.before.requires test.loop-test.true loop.loop.invariant.0)
 
 cast-head : tie.Need-overflow-cast-head invariant-loop decreases-loop
 cast-head c =
@@ -111,12 +111,12 @@ loop-again c =
     let test = decode.before.before.before in
     let loop = test.before in (
       omega (arith, test.loop-test.true, loop.loop.invariant.0),
-      telling-turn loop.before.before.requires test.loop-test.true loop.loop.invariant.0 loop.loop.invariant.1 decode.decode.ensures
+      telling_turn loop.before.before.requires test.loop-test.true loop.loop.invariant.0 loop.loop.invariant.1 decode.decode.ensures
           negative.begins-negative.ensures c.told.ensures refl,
     )
 
 returns : tie.Need-returns invariant-loop decreases-loop
-returns c = telling-end c.before.loop.invariant.1 c.loop-test.false
+returns c = telling_end c.before.loop.invariant.1 c.loop-test.false
 
 pub overrunning-spec : {M : Type 1} → statement M
 overrunning-spec =

@@ -1,5 +1,5 @@
 -- By the two tests.
-use Rattle.client_records.proofs.Charging.{allowed-nobody, allowed-none, allowed-one}
+use Rattle.client_records.proofs.Charging.{allowed_nobody, allowed_none, allowed_one}
 use borrow.Author.Rules.{rules}
 use Rattle.client_charges.proofs.allowance.allowance.Statement.{statement}
 use Rattle.client_charges.proofs.allowance.allowance.Tie as tie
@@ -7,7 +7,7 @@ use Rattle.client_charges.proofs.allowance.allowance.Tie as tie
 returns : tie.Need-returns
 returns c =
     let given = c.before.args in
-    allowed-nobody given.client given.share given.limit given.t1 c.if1.true
+    allowed_nobody given.client given.share given.limit given.t1 c.if1.true
 
 mul-own : tie.Need-overflow-mul-own
 mul-own c = search rules
@@ -23,14 +23,14 @@ returns-2 c =
     let at-quota = c.before in
     let at-client = at-quota.before.before in
     let given = at-client.before.args in
-    allowed-none given.client given.share given.limit given.t1 at-client.if1.false at-quota.is-exhausted.ensures c.if2.true
+    allowed_none given.client given.share given.limit given.t1 at-client.if1.false at-quota.is-exhausted.ensures c.if2.true
 
 returns-3 : tie.Need-returns-3
 returns-3 c =
     let at-quota = c.before in
     let at-client = at-quota.before.before in
     let given = at-client.before.args in
-    allowed-one given.client given.share given.limit given.t1 at-client.if1.false at-quota.is-exhausted.ensures c.if2.false
+    allowed_one given.client given.share given.limit given.t1 at-client.if1.false at-quota.is-exhausted.ensures c.if2.false
 
 pub allowance-spec : {M : Type 1} → statement M
 allowance-spec =

@@ -3,8 +3,8 @@ use Prim.Native.Nat.{◌-◌}
 use native.Mathlib.Omega.{arith}
 use borrow.Author.Rules.{rules}
 use Rattle.client_records.specs.Usages.{clients}
-use Rattle.client_records.specs.contracts.Sums.{SummedUp}
-use Rattle.client_records.proofs.Sums.{nothing-summed, small, one_more, all-summed}
+use Rattle.client_records.specs.inner.Sums.{SummedUp}
+use Rattle.client_records.proofs.Sums.{nothing_summed, small, one_more, all_summed}
 use Rattle.client_records.proofs.totals.total.Statement.{statement}
 use Rattle.client_records.proofs.totals.total.Tie as tie
 
@@ -15,7 +15,7 @@ abbrev decreases-loop : tie.decreases-loop
 decreases-loop usages all₀ client₀ all client = clients - client
 
 loop-holds : tie.Need-loop-init invariant-loop decreases-loop
-loop-holds c = nothing-summed c.args.t1
+loop-holds c = nothing_summed c.args.t1
 
 mul-usage : tie.Need-overflow-mul-usage invariant-loop decreases-loop
 mul-usage c = search rules
@@ -36,7 +36,7 @@ loop-again : tie.Need-loop-preserved invariant-loop decreases-loop
 loop-again c = one_more c.before.before.before.loop.invariant (omega arith) c.plus.ensures
 
 returns : tie.Need-returns invariant-loop decreases-loop
-returns c = all-summed c.before.loop.invariant (omega arith)
+returns c = all_summed c.before.loop.invariant (omega arith)
 
 pub total-spec : {M : Type 1} → statement M
 total-spec =

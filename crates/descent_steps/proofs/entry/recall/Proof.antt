@@ -1,5 +1,5 @@
 use borrow.Author.Tests.{eq-eqb, ne_eqb}
-use Rattle.semantics.specs.contracts.Memo.{decode}
+use Rattle.semantics.specs.inner.Memo.{decode}
 use Rattle.descent_steps.proofs.entry.recall.Statement.{statement}
 use Rattle.descent_steps.proofs.entry.recall.Tie as tie
 

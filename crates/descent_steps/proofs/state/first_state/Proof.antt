@@ -1,13 +1,13 @@
 -- By whether there is a rule.
 use borrow.Author.Tests.{eq-eqb, ne_eqb}
 use borrow.Author.Rules.{rules}
-use Rattle.descent_arrays.specs.contracts.Arrays.{end_at}
-use Rattle.descent_steps.specs.contracts.Steps.{firstState}
+use Rattle.descent_arrays.specs.inner.Arrays.{end_at}
+use Rattle.descent_steps.specs.inner.Steps.{first_state}
 use Rattle.descent_steps.proofs.state.first_state.Statement.{statement}
 use Rattle.descent_steps.proofs.state.first_state.Tie as tie
 
 returns : tie.Need-returns
-unfolding firstState
+unfolding first_state
 returns c = rw (eq-eqb _ 0 c.if1.true)
 
 word-at-requires : tie.Need-word-at-requires
@@ -20,7 +20,7 @@ first-agreement-requires : tie.Need-first-agreement-requires
 first-agreement-requires c κs = tt
 
 returns-2 : tie.Need-returns-2
-unfolding firstState end_at
+unfolding first_state end_at
 returns-2 c =
     let read = c.before.before in
     rw (ne_eqb _ 0 read.before.if1.false, ← read.word_at.ensures, c.first-agreement.ensures)

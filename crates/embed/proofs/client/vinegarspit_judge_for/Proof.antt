@@ -1,5 +1,5 @@
 -- The row is read, and what the client is served with is handed back.
-use Rattle.embed_promises.proofs.Exporting.{served-exported}
+use Rattle.embed_promises.proofs.Exporting.{served_exported}
 use borrow.Author.Rules.{rules}
 use Rattle.embed.proofs.client.vinegarspit_judge_for.Statement.{statement}
 use Rattle.embed.proofs.client.vinegarspit_judge_for.Tie as tie
@@ -22,7 +22,7 @@ same-length-2 c = search rules
 returns : tie.Need-returns
 returns c =
     let at-judge = c.before.before.before.before.before.before in
-    served-exported at-judge.before.before.before.usages-in.ensures at-judge.judge-for.ensures c.hand-back.ensures
+    served_exported at-judge.before.before.before.usages-in.ensures at-judge.judge-for.ensures c.hand-back.ensures
 
 pub vinegarspit-judge-for-spec : {M : Type 1} → statement M
 vinegarspit-judge-for-spec =

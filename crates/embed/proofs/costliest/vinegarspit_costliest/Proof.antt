@@ -1,6 +1,6 @@
 -- The answer of the search, packed, is what is reported.
 use borrow.Author.Rules.{rules}
-use Rattle.embed_promises.proofs.Exporting.{costliest-exported}
+use Rattle.embed_promises.proofs.Exporting.{costliest_exported}
 use Rattle.embed.proofs.costliest.vinegarspit_costliest.Statement.{statement}
 use Rattle.embed.proofs.costliest.vinegarspit_costliest.Tie as tie
 
@@ -22,7 +22,7 @@ same-length-3 c = search rules
 returns : tie.Need-returns
 returns c =
     let at-judge-costliest = c.before.before.before.before.before.before.before in
-    costliest-exported at-judge-costliest.judge-costliest.ensures c.pack.ensures
+    costliest_exported at-judge-costliest.judge-costliest.ensures c.pack.ensures
 
 pub vinegarspit-costliest-spec : {M : Type 1} → statement M
 vinegarspit-costliest-spec =

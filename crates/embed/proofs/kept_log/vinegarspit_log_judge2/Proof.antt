@@ -1,5 +1,5 @@
 -- The answer of the judge, packed, is what is reported.
-use Rattle.embed_promises.proofs.Keeping.{kept-exported}
+use Rattle.embed_promises.proofs.Keeping.{kept_exported}
 use borrow.Author.Rules.{rules}
 use Rattle.embed.proofs.kept_log.vinegarspit_log_judge2.Statement.{statement}
 use Rattle.embed.proofs.kept_log.vinegarspit_log_judge2.Tie as tie
@@ -22,7 +22,7 @@ same-length-2 c = search rules
 returns : tie.Need-returns
 returns c =
     let at-judge = c.before.before.before.before.before in
-    kept-exported at-judge.before.before.before.kept_in.ensures at-judge.judge-kept-two.ensures c.pack.ensures
+    kept_exported at-judge.before.before.before.kept_in.ensures at-judge.judge-kept-two.ensures c.pack.ensures
 
 pub vinegarspit-log-judge2-spec : {M : Type 1} → statement M
 vinegarspit-log-judge2-spec =

@@ -2,7 +2,7 @@
 use mathlib.Core.Path.{refl}
 use native.Mathlib.Omega.{arith}
 use borrow.Author.Rules.{rules}
-use Rattle.embed_promises.proofs.Exporting.{tree-exported}
+use Rattle.embed_promises.proofs.Exporting.{tree_exported}
 use Rattle.embed.proofs.parse_tree.vinegarspit_tree.Statement.{statement}
 use Rattle.embed.proofs.parse_tree.vinegarspit_tree.Tie as tie
 
@@ -29,7 +29,7 @@ same-length-3 c = search rules
 returns : tie.Need-returns
 returns c =
     let at-judge-tree = c.before.before.before.before.before.before.before.before in
-    tree-exported at-judge-tree.judge-tree.ensures refl c.pack.ensures
+    tree_exported at-judge-tree.judge-tree.ensures refl c.pack.ensures
 
 pub vinegarspit-tree-spec : {M : Type 1} → statement M
 vinegarspit-tree-spec =

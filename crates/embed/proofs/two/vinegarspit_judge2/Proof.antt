@@ -1,5 +1,5 @@
 -- The answer of the judge with two tokens of lookahead, packed, is what is reported.
-use Rattle.embed_promises.proofs.Exporting.{judge-exported}
+use Rattle.embed_promises.proofs.Exporting.{judge_exported}
 use borrow.Author.Rules.{rules}
 use Rattle.embed.proofs.two.vinegarspit_judge2.Statement.{statement}
 use Rattle.embed.proofs.two.vinegarspit_judge2.Tie as tie
@@ -19,7 +19,7 @@ same-length-2 c = search rules
 returns : tie.Need-returns
 returns c =
     let at-judge-two = c.before.before.before.before.before in
-    judge-exported at-judge-two.judge-two.ensures c.pack.ensures
+    judge_exported at-judge-two.judge-two.ensures c.pack.ensures
 
 pub vinegarspit-judge2-spec : {M : Type 1} → statement M
 vinegarspit-judge2-spec =

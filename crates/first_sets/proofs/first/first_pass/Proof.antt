@@ -2,17 +2,17 @@
 use mathlib.Core.Path.{refl}
 use Prim.Native.Nat.{◌-◌}
 use native.Mathlib.Omega.{arith}
-use Rattle.grammar.proofs.WellRead.{well-read}
-use Rattle.families.proofs.RulePasses.{Turns, turns-start}
-use Rattle.families.proofs.HeadPasses.{Gives, its-turn, its-words, visit, visits-end}
-use Rattle.families.proofs.FirstPasses.{ruleGives, rule-larger, rule-given}
-use Rattle.families.proofs.FirstMeets.{Meeting, meeting-start, meeting-next, meeting-end}
+use Rattle.grammar.proofs.WellRead.{well_read}
+use Rattle.families.proofs.RulePasses.{Turns, turns_start}
+use Rattle.families.proofs.HeadPasses.{Gives, its_turn, its_words, visit, visits_end}
+use Rattle.families.proofs.FirstPasses.{rule_gives, rule_larger, rule_given}
+use Rattle.families.proofs.FirstMeets.{Meeting, meeting_start, meeting_next, meeting_end}
 use Rattle.first_sets.proofs.first.first_pass.Statement.{statement}
 use Rattle.first_sets.proofs.first.first_pass.Tie as tie
 
 abbrev invariant-loop : tie.invariant-loop
 invariant-loop words starts ends sizes firsts₀ meets₀ forward lookahead terminals grown₀ passed₀ firsts meets grown passed =
-    Turns (Gives (ruleGives lookahead terminals) words) sizes.rules forward firsts₀ firsts grown passed
+    Turns (Gives (rule_gives lookahead terminals) words) sizes.rules forward firsts₀ firsts grown passed
     × Meeting lookahead terminals words sizes.rules forward firsts₀ meets grown passed
 
 abbrev decreases-loop : tie.decreases-loop
@@ -21,7 +21,7 @@ decreases-loop words starts ends sizes firsts₀ meets₀ forward lookahead term
 loop-holds : tie.Need-loop-init invariant-loop decreases-loop
 loop-holds c =
     let start = c.before in
-    (turns-start _ _ start.args.forward _, meeting-start _ _ _ start.args.forward _ start.requires.2)
+    (turns_start _ _ start.args.forward _, meeting_start _ _ _ start.args.forward _ start.requires.2)
 
 turn-requires : tie.Need-turn-requires invariant-loop decreases-loop
 turn-requires c κs = tt
@@ -30,44 +30,44 @@ mul-start : tie.Need-overflow-mul-start invariant-loop decreases-loop
 mul-start c =
     let test = c.before in
     let start = test.before.before.before.before in
-    omega (arith, its-turn start.requires.0 start.args.forward test.if1.true c.turn.ensures, (well-read _ _ start.requires.0.read).fewRules)
+    omega (arith, its_turn start.requires.0 start.args.forward test.if1.true c.turn.ensures, (well_read _ _ start.requires.0.read).few_rules)
 
 element-copy-out-start : tie.Need-element-copy-out-start invariant-loop decreases-loop
 element-copy-out-start c =
     let test = c.before in
     let start = test.before.before.before.before in
-    omega (arith, its-turn start.requires.0 start.args.forward test.if1.true c.turn.ensures, (well-read _ _ start.requires.0.read).fewRules)
+    omega (arith, its_turn start.requires.0 start.args.forward test.if1.true c.turn.ensures, (well_read _ _ start.requires.0.read).few_rules)
 
 mul-end : tie.Need-overflow-mul-end invariant-loop decreases-loop
 mul-end c =
     let turned = c.before in
     let test = turned.before in
     let start = test.before.before.before.before in
-    omega (arith, its-turn start.requires.0 start.args.forward test.if1.true turned.turn.ensures, (well-read _ _ start.requires.0.read).fewRules)
+    omega (arith, its_turn start.requires.0 start.args.forward test.if1.true turned.turn.ensures, (well_read _ _ start.requires.0.read).few_rules)
 
 element-copy-out-end : tie.Need-element-copy-out-end invariant-loop decreases-loop
 element-copy-out-end c =
     let turned = c.before in
     let test = turned.before in
     let start = test.before.before.before.before in
-    omega (arith, its-turn start.requires.0 start.args.forward test.if1.true turned.turn.ensures, (well-read _ _ start.requires.0.read).fewRules)
+    omega (arith, its_turn start.requires.0 start.args.forward test.if1.true turned.turn.ensures, (well_read _ _ start.requires.0.read).few_rules)
 
 cast-end : tie.Need-overflow-cast-end invariant-loop decreases-loop
 cast-end c =
     let turned = c.before.before in
     let test = turned.before in
     let start = test.before.before.before.before in
-    let rule = its-words start.requires.0 start.args.forward test.if1.true turned.turn.ensures refl in
-    let positives = start.requires.1 _ (its-turn start.requires.0 start.args.forward test.if1.true turned.turn.ensures) in
-    omega (arith, positives.high, rule.within, (well-read _ _ start.requires.0.read).short)
+    let rule = its_words start.requires.0 start.args.forward test.if1.true turned.turn.ensures refl in
+    let positives = start.requires.1 _ (its_turn start.requires.0 start.args.forward test.if1.true turned.turn.ensures) in
+    omega (arith, positives.high, rule.within, (well_read _ _ start.requires.0.read).short)
 
 add-inside : tie.Need-overflow-add-inside invariant-loop decreases-loop
 add-inside c =
     let turned = c.before.before in
     let test = turned.before in
     let start = test.before.before.before.before in
-    let rule = its-words start.requires.0 start.args.forward test.if1.true turned.turn.ensures refl in
-    let positives = start.requires.1 _ (its-turn start.requires.0 start.args.forward test.if1.true turned.turn.ensures) in
+    let rule = its_words start.requires.0 start.args.forward test.if1.true turned.turn.ensures refl in
+    let positives = start.requires.1 _ (its_turn start.requires.0 start.args.forward test.if1.true turned.turn.ensures) in
     omega (arith, positives.low, positives.high, rule.some, rule.within)
 
 mul-rule-first : tie.Need-overflow-mul-rule-first invariant-loop decreases-loop
@@ -75,8 +75,8 @@ mul-rule-first c =
     let turned = c.before.before in
     let test = turned.before in
     let start = test.before.before.before.before in
-    let rule = its-words start.requires.0 start.args.forward test.if1.true turned.turn.ensures refl in
-    let positives = start.requires.1 _ (its-turn start.requires.0 start.args.forward test.if1.true turned.turn.ensures) in
+    let rule = its_words start.requires.0 start.args.forward test.if1.true turned.turn.ensures refl in
+    let positives = start.requires.1 _ (its_turn start.requires.0 start.args.forward test.if1.true turned.turn.ensures) in
     omega (arith, positives.low, positives.high, rule.some, rule.within)
 
 sub-rule-first : tie.Need-overflow-sub-rule-first invariant-loop decreases-loop
@@ -84,8 +84,8 @@ sub-rule-first c =
     let turned = c.before.before in
     let test = turned.before in
     let start = test.before.before.before.before in
-    let rule = its-words start.requires.0 start.args.forward test.if1.true turned.turn.ensures refl in
-    let positives = start.requires.1 _ (its-turn start.requires.0 start.args.forward test.if1.true turned.turn.ensures) in
+    let rule = its_words start.requires.0 start.args.forward test.if1.true turned.turn.ensures refl in
+    let positives = start.requires.1 _ (its_turn start.requires.0 start.args.forward test.if1.true turned.turn.ensures) in
     omega (arith, positives.low, positives.high, rule.some, rule.within)
 
 part-rule-first-start : tie.Need-slice-bounds-rule-first-start invariant-loop decreases-loop
@@ -93,8 +93,8 @@ part-rule-first-start c =
     let turned = c.before.before in
     let test = turned.before in
     let start = test.before.before.before.before in
-    let rule = its-words start.requires.0 start.args.forward test.if1.true turned.turn.ensures refl in
-    let positives = start.requires.1 _ (its-turn start.requires.0 start.args.forward test.if1.true turned.turn.ensures) in
+    let rule = its_words start.requires.0 start.args.forward test.if1.true turned.turn.ensures refl in
+    let positives = start.requires.1 _ (its_turn start.requires.0 start.args.forward test.if1.true turned.turn.ensures) in
     omega (arith, positives.low, positives.high, rule.some, rule.within)
 
 part-rule-first-end : tie.Need-slice-bounds-rule-first-end invariant-loop decreases-loop
@@ -102,8 +102,8 @@ part-rule-first-end c =
     let turned = c.before.before in
     let test = turned.before in
     let start = test.before.before.before.before in
-    let rule = its-words start.requires.0 start.args.forward test.if1.true turned.turn.ensures refl in
-    let positives = start.requires.1 _ (its-turn start.requires.0 start.args.forward test.if1.true turned.turn.ensures) in
+    let rule = its_words start.requires.0 start.args.forward test.if1.true turned.turn.ensures refl in
+    let positives = start.requires.1 _ (its_turn start.requires.0 start.args.forward test.if1.true turned.turn.ensures) in
     omega (arith, positives.low, positives.high, rule.some, rule.within)
 
 rule-first-requires : tie.Need-rule-first-requires invariant-loop decreases-loop
@@ -114,7 +114,7 @@ mul-decode c =
     let turned = c.before.before.before.before.before in
     let test = turned.before in
     let start = test.before.before.before.before in
-    let rule = its-words start.requires.0 start.args.forward test.if1.true turned.turn.ensures refl in
+    let rule = its_words start.requires.0 start.args.forward test.if1.true turned.turn.ensures refl in
     omega (arith, rule.some, rule.within)
 
 shared-slice-read-decode : tie.Need-shared-slice-read-decode invariant-loop decreases-loop
@@ -122,7 +122,7 @@ shared-slice-read-decode c =
     let turned = c.before.before.before.before.before.before in
     let test = turned.before in
     let start = test.before.before.before.before in
-    let rule = its-words start.requires.0 start.args.forward test.if1.true turned.turn.ensures refl in
+    let rule = its_words start.requires.0 start.args.forward test.if1.true turned.turn.ensures refl in
     omega (arith, rule.some, rule.within)
 
 decode-requires : tie.Need-decode-requires invariant-loop decreases-loop
@@ -136,14 +136,14 @@ mul-meets c =
     let turned = c.before.before.before.before.before.before.before.before in
     let test = turned.before in
     let start = test.before.before.before.before in
-    omega (arith, its-turn start.requires.0 start.args.forward test.if1.true turned.turn.ensures, (well-read _ _ start.requires.0.read).fewRules)
+    omega (arith, its_turn start.requires.0 start.args.forward test.if1.true turned.turn.ensures, (well_read _ _ start.requires.0.read).few_rules)
 
 element-write-meets : tie.Need-element-write-meets invariant-loop decreases-loop
 element-write-meets c =
     let turned = c.before.before.before.before.before.before.before.before in
     let test = turned.before in
     let start = test.before.before.before.before in
-    omega (arith, its-turn start.requires.0 start.args.forward test.if1.true turned.turn.ensures, (well-read _ _ start.requires.0.read).fewRules)
+    omega (arith, its_turn start.requires.0 start.args.forward test.if1.true turned.turn.ensures, (well_read _ _ start.requires.0.read).few_rules)
 
 add-requires : tie.Need-add-requires invariant-loop decreases-loop
 add-requires c κs = tt
@@ -173,13 +173,13 @@ loop-again c =
     let given = start.requires.0 in
     let forward = start.args.forward in
     let turns = loop.loop.invariant.0 in
-    let rule = its-words given forward test.if1.true turned.turn.ensures refl in
-    let positives = start.requires.1 _ (its-turn given forward test.if1.true turned.turn.ensures) in
-    let meet = rule-given rule positives _ _ _ first.rule-first.ensures in (
-      visit given (ruleGives _ _) (rule-larger _ _) forward _ turns test.if1.true turned.turn.ensures meet
+    let rule = its_words given forward test.if1.true turned.turn.ensures refl in
+    let positives = start.requires.1 _ (its_turn given forward test.if1.true turned.turn.ensures) in
+    let meet = rule_given rule positives _ _ _ first.rule_first.ensures in (
+      visit given (rule_gives _ _) (rule_larger _ _) forward _ turns test.if1.true turned.turn.ensures meet
           decode.decode.ensures head_of.head_of.ensures
           c.before.add.ensures c.either.ensures,
-      meeting-next given forward _ _ loop.loop.invariant.1 turns.same test.if1.true turned.turn.ensures meet refl c.either.ensures,
+      meeting_next given forward _ _ loop.loop.invariant.1 turns.same test.if1.true turned.turn.ensures meet refl c.either.ensures,
     )
 
 returns : tie.Need-returns invariant-loop decreases-loop
@@ -188,8 +188,8 @@ returns c =
     let start = loop.before.before in
     let given = start.requires.0 in
     let turns = loop.loop.invariant.0 in (
-      visits-end given (ruleGives _ _) (rule-larger _ _) start.args.forward turns c.if1.false,
-      meeting-end given start.args.forward loop.loop.invariant.1 c.if1.false turns.same,
+      visits_end given (rule_gives _ _) (rule_larger _ _) start.args.forward turns c.if1.false,
+      meeting_end given start.args.forward loop.loop.invariant.1 c.if1.false turns.same,
     )
 
 pub first-pass-spec : {M : Type 1} → statement M

@@ -1,7 +1,7 @@
 -- The events stay.
 use mathlib.Core.Path.{◌≡◌}
 use lib.ListN.{length}
-use Rattle.grammar.specs.Limits.{maxTokens}
+use Rattle.grammar.specs.Limits.{max_tokens}
 use borrow.Author.Rules.{rules}
 use Rattle.kept_input.proofs.KeptInput.return_to.Statement.{statement}
 use Rattle.kept_input.proofs.KeptInput.return_to.Tie as tie
@@ -13,7 +13,7 @@ returns : tie.Need-returns
 returns c =
     let at-step = c.before.before in
     let start = at-step.before.before in
-    let whole : length start.args.self.events ≡ maxTokens = search rules in
+    let whole : length start.args.self.events ≡ max_tokens = search rules in
     at-step.return-to.ensures.steps start.args.self.events whole
 
 pub return-to-spec : {M : Type 1} → statement M

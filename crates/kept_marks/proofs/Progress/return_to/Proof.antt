@@ -1,14 +1,14 @@
 -- A number of no mark, a mark that is not set, or the input cut.
 use mathlib.Core.Path.{◌≡◌}
 use lib.ListN.{length}
-use Rattle.kept_steps.specs.Histories.{markCount}
-use Rattle.kept_marks.proofs.Stepping.{return-unknown, return-unset, return-done}
+use Rattle.kept_steps.specs.Histories.{mark_count}
+use Rattle.kept_marks.proofs.Stepping.{return_unknown, return_unset, return_done}
 use borrow.Author.Rules.{rules}
 use Rattle.kept_marks.proofs.Progress.return_to.Statement.{statement}
 use Rattle.kept_marks.proofs.Progress.return_to.Tie as tie
 
 returns : tie.Need-returns
-returns c = record { steps = λ events whole. return-unknown events c.before.args.self c.before.args.mark c.if1.true }
+returns c = record { steps = λ events whole. return_unknown events c.before.args.self c.before.args.mark c.if1.true }
 
 read-requires : tie.Need-read-requires
 read-requires c κs = search rules
@@ -22,12 +22,12 @@ array-read-length c = search rules
 returns-2 : tie.Need-returns-2
 returns-2 c =
     let at_read = c.before.before.before in
-    let at-number = at_read.before in
-    let start = at-number.before in
-    let eight : length start.args.self.marks ≡ markCount = search rules in
+    let at_number = at_read.before in
+    let start = at_number.before in
+    let eight : length start.args.self.marks ≡ mark_count = search rules in
     record {
-      steps = λ events whole. return-unset events start.args.self whole eight at_read.read.ensures start.args.mark
-          at-number.if1.false c.if2.true;
+      steps = λ events whole. return_unset events start.args.self whole eight at_read.read.ensures start.args.mark
+          at_number.if1.false c.if2.true;
     }
 
 all-cleared-requires : tie.Need-all-cleared-requires
@@ -37,11 +37,11 @@ returns-3 : tie.Need-returns-3
 returns-3 c =
     let at_test = c.before in
     let at_read = at_test.before.before.before in
-    let at-number = at_read.before in
-    let start = at-number.before in
-    let eight : length start.args.self.marks ≡ markCount = search (rules, start.well-formed) in
+    let at_number = at_read.before in
+    let start = at_number.before in
+    let eight : length start.args.self.marks ≡ mark_count = search (rules, start.well-formed) in
     record {
-      steps = λ events whole. return-done events start.args.self whole eight at_read.read.ensures start.args.mark at-number.if1.false
+      steps = λ events whole. return_done events start.args.self whole eight at_read.read.ensures start.args.mark at_number.if1.false
           at_test.if2.false c.all-cleared.ensures;
     }
 

@@ -1,6 +1,6 @@
 -- A set is empty where its number is 0.
 use mathlib.Core.Path.{refl}
-use Rattle.lookahead.specs.contracts.Operations.{is_empty}
+use Rattle.lookahead.specs.inner.Operations.{is_empty}
 use Rattle.lookahead_sets.proofs.LookaheadSet.is_empty.Statement.{statement}
 use Rattle.lookahead_sets.proofs.LookaheadSet.is_empty.Tie as tie
 

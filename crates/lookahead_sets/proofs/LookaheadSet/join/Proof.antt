@@ -1,6 +1,6 @@
 -- A join is the numbers' disjunction.
 use mathlib.Core.Path.{refl}
-use Rattle.lookahead.specs.contracts.Operations.{join}
+use Rattle.lookahead.specs.inner.Operations.{join}
 use Rattle.lookahead.proofs.Operations as operations
 use Rattle.lookahead_sets.proofs.LookaheadSet.join.Statement.{statement}
 use Rattle.lookahead_sets.proofs.LookaheadSet.join.Tie as tie

@@ -1,5 +1,5 @@
 -- What is written is an input of the grammar's terminals, and its calls are counted in the memo table.
-use Rattle.recursive_descent_promises.proofs.Searching.{trial-start, trial-done}
+use Rattle.recursive_descent_promises.proofs.Searching.{trial_start, trial_done}
 use borrow.Author.Rules.{rules}
 use Rattle.recursive_descent.proofs.search.try_input.Statement.{statement}
 use Rattle.recursive_descent.proofs.search.try_input.Tie as tie
@@ -11,7 +11,7 @@ call-requires : tie.Need-call-requires
 call-requires c κs =
     let prepared = c.before.before.before.before.before.before in
     let start = prepared.before.before.before.before.before.before in
-    trial-start start.requires start.args.number prepared.prepare-trial.ensures
+    trial_start start.requires start.args.number prepared.prepare-trial.ensures
 
 count-calls-requires : tie.Need-count-calls-requires
 count-calls-requires c κs = tt
@@ -27,7 +27,7 @@ returns c =
     let called = c.before.before.before.before in
     let prepared = called.before.before.before.before.before.before.before in
     let start = prepared.before.before.before.before.before.before in
-    trial-done start.requires start.args.number prepared.prepare-trial.ensures called.call.ensures c.count-calls.ensures
+    trial_done start.requires start.args.number prepared.prepare-trial.ensures called.call.ensures c.count-calls.ensures
 
 pub try-input-spec : {M : Type 1} → statement M
 try-input-spec =

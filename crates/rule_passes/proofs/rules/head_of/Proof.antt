@@ -1,5 +1,5 @@
 -- Only a word that begins a rule has a head.
-use Rattle.families.proofs.NamedNonterminals.{no-head-of}
+use Rattle.families.proofs.NamedNonterminals.{no_head_of}
 use borrow.Author.Rules.{rules}
 use Rattle.rule_passes.proofs.rules.head_of.Statement.{statement}
 use Rattle.rule_passes.proofs.rules.head_of.Tie as tie
@@ -8,7 +8,7 @@ enum-known-word : tie.Need-enum-known-word
 enum-known-word c = c.match.keys1
 
 returns : tie.Need-returns
-returns c = rw (no-head-of c.before.args.word c.match.keys2)
+returns c = rw (no_head_of c.before.args.word c.match.keys2)
 
 returns-2 : tie.Need-returns-2
 returns-2 c = search rules

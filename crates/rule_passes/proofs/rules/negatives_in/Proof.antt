@@ -5,7 +5,7 @@ use native.Mathlib.Omega.{arith}
 use lib.ListN.{length, get_or}
 use Rattle.word.specs.Words.{decoded}
 use Rattle.word.specs.declared.Word.TheVariants.{Negative}
-use Rattle.families.proofs.Signs.{none-till, not_negative}
+use Rattle.families.proofs.Signs.{none_till, not_negative}
 use Rattle.rule_passes.proofs.rules.negatives_in.Statement.{statement}
 use Rattle.rule_passes.proofs.rules.negatives_in.Tie as tie
 
@@ -50,7 +50,7 @@ loop-again c =
     let loop = test.before in
     let start = loop.before.before in (
       omega (arith, test.loop-test.true),
-      none-till start.args.words.now loop.loop.at loop.loop.invariant.1
+      none_till start.args.words.now loop.loop.at loop.loop.invariant.1
           (λ e. not_negative decode.decode.result c.match.keys2 (decode.decode.ensures ∙ e)),
     )
 

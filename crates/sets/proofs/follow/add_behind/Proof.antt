@@ -1,6 +1,6 @@
 -- Only a nonterminal of a body has something behind it.
 use mathlib.Core.Path.{refl}
-use Rattle.families.proofs.LeastByPasses.{added-at}
+use Rattle.families.proofs.LeastByPasses.{added_at}
 use Rattle.families.proofs.NamedNonterminals.{no_name}
 use Rattle.sets.proofs.follow.add_behind.Statement.{statement}
 use Rattle.sets.proofs.follow.add_behind.Tie as tie
@@ -29,7 +29,7 @@ returns-3 c =
     let at-word = at_symbol.before.before.before in
     let start = at-word.before.before in
     let named = rw (at-word.word.given.1, at_symbol.symbol.given.1) at start.requires in
-    rw (at-word.word.given.1, at_symbol.symbol.given.1) (added-at named c.add.ensures)
+    rw (at-word.word.given.1, at_symbol.symbol.given.1) (added_at named c.add.ensures)
 
 pub add-behind-spec : {M : Type 1} → statement M
 add-behind-spec =

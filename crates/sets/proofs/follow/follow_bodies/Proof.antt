@@ -1,8 +1,8 @@
 -- The loop keeps `FollowWalk`: the words from `at` on have been gone through.
 use mathlib.Core.Path.{refl}
 use native.Mathlib.Omega.{arith}
-use Rattle.families.specs.contracts.Least.{at as family}
-use Rattle.families.proofs.FollowPasses.{FollowWalk, behind-body, follow-start, word-here, follow-turn, follow-end}
+use Rattle.families.specs.inner.Least.{at as family}
+use Rattle.families.proofs.FollowPasses.{FollowWalk, behind_body, follow_start, word_here, follow_turn, follow_end}
 use Rattle.sets.proofs.follow.follow_bodies.Statement.{statement}
 use Rattle.sets.proofs.follow.follow_bodies.Tie as tie
 
@@ -22,7 +22,7 @@ concat-requires c κs = tt
 loop-holds : tie.Need-loop-init invariant-loop decreases-loop
 loop-holds c =
     let start = c.before.before.before in
-    follow-start start.requires.1 start.args.lookahead _ _ _ (behind-body start.args.lookahead c.before.end.ensures c.concat.ensures)
+    follow_start start.requires.1 start.args.lookahead _ _ _ (behind_body start.args.lookahead c.before.end.ensures c.concat.ensures)
     start.requires.0
 
 sub_at : tie.Need-overflow-sub-at invariant-loop decreases-loop
@@ -49,7 +49,7 @@ add-behind-requires c κs =
     let at-loop-test = at-decode.before.before in
     let at-loop = at-loop-test.before in
     let start = at-loop.before.before.before.before in
-    word-here start.requires.1 _ at-loop.loop.invariant at-loop-test.loop-test.true at-decode.decode.ensures
+    word_here start.requires.1 _ at-loop.loop.invariant at-loop-test.loop-test.true at-decode.decode.ensures
 
 either-requires : tie.Need-either-requires invariant-loop decreases-loop
 either-requires c κs = tt
@@ -70,17 +70,17 @@ loop-again c =
     let at-loop-test = at-decode.before.before in
     let at-loop = at-loop-test.before in
     let behind = at-loop.before in
-    let at-end = behind.before in
-    let start = at-end.before.before in
-    follow-turn start.requires.1 _ at-loop.loop.invariant at-loop-test.loop-test.true at-decode.decode.ensures _ start.requires.2
-    at-add-behind.add-behind.ensures at-either.either.ensures (behind-body start.args.lookahead at-end.end.ensures behind.concat.ensures)
+    let at_end = behind.before in
+    let start = at_end.before.before in
+    follow_turn start.requires.1 _ at-loop.loop.invariant at-loop-test.loop-test.true at-decode.decode.ensures _ start.requires.2
+    at-add-behind.add-behind.ensures at-either.either.ensures (behind_body start.args.lookahead at_end.end.ensures behind.concat.ensures)
     start.args.firsts.now refl c.tail-before.ensures
 
 returns : tie.Need-returns invariant-loop decreases-loop
 returns c =
     let at-loop = c.before in
     let start = at-loop.before.before.before.before in
-    follow-end start.requires.1 at-loop.loop.invariant c.loop-test.false
+    follow_end start.requires.1 at-loop.loop.invariant c.loop-test.false
 
 pub follow-bodies-spec : {M : Type 1} → statement M
 follow-bodies-spec =

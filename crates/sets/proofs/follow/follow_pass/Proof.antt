@@ -2,8 +2,8 @@
 use mathlib.Core.Path.{ap, ◌∙◌}
 use native.Mathlib.Omega.{arith}
 use lib.ListN.{length, length-set}
-use Rattle.families.proofs.LeastByPasses.{added-risen}
-use Rattle.families.proofs.FollowPasses.{follow-passes, last-risen}
+use Rattle.families.proofs.LeastByPasses.{added_risen}
+use Rattle.families.proofs.FollowPasses.{follow_passes, last_risen}
 use Rattle.sets.proofs.follow.follow_pass.Statement.{statement}
 use Rattle.sets.proofs.follow.follow_pass.Tie as tie
 
@@ -19,7 +19,7 @@ follow-rules-requires c κs =
     let start = at-add.before.before.before.before in
     let given = start.requires in (
       record { read = given.0.read; begins = given.0.begins; long = ap length at-add.add.ensures.list ∙ (simp length-set) ∙ given.0.long },
-      last-risen given.1 (added-risen (omega (arith, given.0.long)) at-add.add.ensures),
+      last_risen given.1 (added_risen (omega (arith, given.0.long)) at-add.add.ensures),
     )
 
 either-requires : tie.Need-either-requires
@@ -29,12 +29,12 @@ returns : tie.Need-returns
 returns c =
     let at-follow-rules = c.before in
     let at-add = at-follow-rules.before.before.before in
-    let at-end = at-add.before in
-    let start = at-end.before.before.before in
+    let at_end = at-add.before in
+    let start = at_end.before.before.before in
     let given = start.requires in
     let rules = at-follow-rules.follow-rules.ensures in (
       rw c.either.ensures
-          (follow-passes _ _ _ (omega (arith, given.0.long)) (rw at-end.end.ensures.is at at-add.add.ensures) rules.0),
+          (follow_passes _ _ _ (omega (arith, given.0.long)) (rw at_end.end.ensures.is at at-add.add.ensures) rules.0),
       rules.1,
     )
 

@@ -2,8 +2,8 @@
 use mathlib.Core.Path.{◌∙◌}
 use native.Mathlib.Omega.{arith}
 use borrow.Author.Rules.{rules}
-use Rattle.families.proofs.FollowPasses.{follow-skipped, none-asked, follow-both}
-use Rattle.families.proofs.Signs.{negatives-inside, negative-words, positive-words}
+use Rattle.families.proofs.FollowPasses.{follow_skipped, none_asked, follow_both}
+use Rattle.families.proofs.Signs.{negatives_inside, negative_words, positive_words}
 use Rattle.sets.proofs.follow.follow_rule.Statement.{statement}
 use Rattle.sets.proofs.follow.follow_rule.Tie as tie
 
@@ -14,7 +14,7 @@ element-copy-out-follow : tie.Need-element-copy-out-follow
 element-copy-out-follow c = search rules
 
 returns : tie.Need-returns
-returns c = let start = c.before.before.before in follow-skipped start.requires.0 start.requires.3 c.if1.true
+returns c = let start = c.before.before.before in follow_skipped start.requires.0 start.requires.3 c.if1.true
 
 add-inside : tie.Need-overflow-add-inside
 add-inside c = search rules
@@ -38,15 +38,15 @@ add-negatives : tie.Need-overflow-add-negatives
 add-negatives c =
     let start = c.before.before.before.before.before in
     let rule = start.requires.0 in
-    omega (arith, (negatives-inside rule c.negatives-in.ensures).high, rule.within)
+    omega (arith, (negatives_inside rule c.negatives_in.ensures).high, rule.within)
 
 follow-bodies-requires : tie.Need-follow-bodies-requires
 follow-bodies-requires c κs =
     let found = c.before in
     let start = found.before.before.before.before.before in
     let rule = start.requires.0 in
-    let negatives = negatives-inside rule found.negatives-in.ensures in
-    (none-asked rule negatives _ _ _ _, negative-words rule negatives, start.requires.2)
+    let negatives = negatives_inside rule found.negatives_in.ensures in
+    (none_asked rule negatives _ _ _ _, negative_words rule negatives, start.requires.2)
 
 follow-bodies-requires-2 : tie.Need-follow-bodies-requires-2
 follow-bodies-requires-2 c κs =
@@ -55,7 +55,7 @@ follow-bodies-requires-2 c κs =
     let start = found.before.before.before.before.before in
     let rule = start.requires.0 in
     let turn = behind.follow-bodies.ensures in
-    (turn.asked, positive-words rule (negatives-inside rule found.negatives-in.ensures), turn.passing.long ∙ start.requires.2)
+    (turn.asked, positive_words rule (negatives_inside rule found.negatives_in.ensures), turn.passing.long ∙ start.requires.2)
 
 either-requires : tie.Need-either-requires
 either-requires c κs = search rules
@@ -67,8 +67,8 @@ returns-2 c =
     let found = behind.before.before in
     let start = found.before.before.before.before.before in
     let rule = start.requires.0 in
-    let negatives = negatives-inside rule found.negatives-in.ensures in
-    follow-both rule negatives _ _ behind.follow-bodies.ensures front.follow-bodies2.ensures c.either.ensures
+    let negatives = negatives_inside rule found.negatives_in.ensures in
+    follow_both rule negatives _ _ behind.follow-bodies.ensures front.follow-bodies2.ensures c.either.ensures
 
 pub follow-rule-spec : {M : Type 1} → statement M
 follow-rule-spec =

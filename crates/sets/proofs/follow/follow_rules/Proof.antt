@@ -2,12 +2,12 @@
 use Prim.Native.Nat.{◌-◌}
 use mathlib.Core.Path.{refl, ◌∙◌}
 use native.Mathlib.Omega.{arith}
-use Rattle.grammar.proofs.WellRead.{well-read}
-use Rattle.families.specs.contracts.Least.{at as family}
-use Rattle.families.specs.contracts.Follow.{LastTurns}
-use Rattle.families.proofs.RulePasses.{Turns, turns-start}
-use Rattle.families.proofs.HeadPasses.{its-turn, its-start, its-words, head-below}
-use Rattle.families.proofs.FollowPasses.{Asks, follow-visit, follows-end, last-asked, last-next}
+use Rattle.grammar.proofs.WellRead.{well_read}
+use Rattle.families.specs.inner.Least.{at as family}
+use Rattle.families.specs.inner.Follow.{LastTurns}
+use Rattle.families.proofs.RulePasses.{Turns, turns_start}
+use Rattle.families.proofs.HeadPasses.{its_turn, its_start, its_words, head_below}
+use Rattle.families.proofs.FollowPasses.{Asks, follow_visit, follows_end, last_asked, last_next}
 use Rattle.sets.proofs.follow.follow_rules.Statement.{statement}
 use Rattle.sets.proofs.follow.follow_rules.Tie as tie
 
@@ -20,7 +20,7 @@ abbrev decreases-loop : tie.decreases-loop
 decreases-loop words starts sizes firsts follows₀ last₀ forward lookahead grown₀ passed₀ follows last grown passed = sizes.rules - passed
 
 loop-holds : tie.Need-loop-init invariant-loop decreases-loop
-loop-holds c = (turns-start _ _ c.before.args.forward _, c.before.requires.1)
+loop-holds c = (turns_start _ _ c.before.args.forward _, c.before.requires.1)
 
 turn-requires : tie.Need-turn-requires invariant-loop decreases-loop
 turn-requires c κs = tt
@@ -29,13 +29,13 @@ mul-start : tie.Need-overflow-mul-start invariant-loop decreases-loop
 mul-start c =
     let at-if1 = c.before in
     let start = at-if1.before.before.before.before in
-    omega (arith, its-turn start.requires.0 start.args.forward at-if1.if1.true c.turn.ensures, (well-read _ _ start.requires.0.read).fewRules)
+    omega (arith, its_turn start.requires.0 start.args.forward at-if1.if1.true c.turn.ensures, (well_read _ _ start.requires.0.read).few_rules)
 
 element-copy-out-start : tie.Need-element-copy-out-start invariant-loop decreases-loop
 element-copy-out-start c =
     let at-if1 = c.before in
     let start = at-if1.before.before.before.before in
-    omega (arith, its-turn start.requires.0 start.args.forward at-if1.if1.true c.turn.ensures, (well-read _ _ start.requires.0.read).fewRules)
+    omega (arith, its_turn start.requires.0 start.args.forward at-if1.if1.true c.turn.ensures, (well_read _ _ start.requires.0.read).few_rules)
 
 end-of-requires : tie.Need-end-of-requires invariant-loop decreases-loop
 end-of-requires c κs = tt
@@ -45,14 +45,14 @@ mul-decode c =
     let at_turn = c.before.before in
     let at-if1 = at_turn.before in
     let start = at-if1.before.before.before.before in
-    omega (arith, its-start start.requires.0 start.args.forward at-if1.if1.true at_turn.turn.ensures)
+    omega (arith, its_start start.requires.0 start.args.forward at-if1.if1.true at_turn.turn.ensures)
 
 shared-slice-read-decode : tie.Need-shared-slice-read-decode invariant-loop decreases-loop
 shared-slice-read-decode c =
     let at_turn = c.before.before.before in
     let at-if1 = at_turn.before in
     let start = at-if1.before.before.before.before in
-    omega (arith, its-start start.requires.0 start.args.forward at-if1.if1.true at_turn.turn.ensures)
+    omega (arith, its_start start.requires.0 start.args.forward at-if1.if1.true at_turn.turn.ensures)
 
 decode-requires : tie.Need-decode-requires invariant-loop decreases-loop
 decode-requires c κs = tt
@@ -65,14 +65,14 @@ mul-before c =
     let at_turn = c.before.before.before.before.before in
     let at-if1 = at_turn.before in
     let start = at-if1.before.before.before.before in
-    omega (arith, its-turn start.requires.0 start.args.forward at-if1.if1.true at_turn.turn.ensures, (well-read _ _ start.requires.0.read).fewRules)
+    omega (arith, its_turn start.requires.0 start.args.forward at-if1.if1.true at_turn.turn.ensures, (well_read _ _ start.requires.0.read).few_rules)
 
 element-copy-out-before : tie.Need-element-copy-out-before invariant-loop decreases-loop
 element-copy-out-before c =
     let at_turn = c.before.before.before.before.before in
     let at-if1 = at_turn.before in
     let start = at-if1.before.before.before.before in
-    omega (arith, its-turn start.requires.0 start.args.forward at-if1.if1.true at_turn.turn.ensures, (well-read _ _ start.requires.0.read).fewRules)
+    omega (arith, its_turn start.requires.0 start.args.forward at-if1.if1.true at_turn.turn.ensures, (well_read _ _ start.requires.0.read).few_rules)
 
 cast-last : tie.Need-overflow-cast-last invariant-loop decreases-loop
 cast-last c =
@@ -83,7 +83,7 @@ cast-last c =
     let start = at-if1.before.before.before.before in
     omega (
       arith,
-      head-below start.requires.0 start.args.forward at-if1.if1.true at_turn.turn.ensures
+      head_below start.requires.0 start.args.forward at-if1.if1.true at_turn.turn.ensures
           at-decode.decode.ensures at-head-of.head_of.ensures,
     )
 
@@ -96,7 +96,7 @@ mul-last c =
     let start = at-if1.before.before.before.before in
     omega (
       arith,
-      head-below start.requires.0 start.args.forward at-if1.if1.true at_turn.turn.ensures
+      head_below start.requires.0 start.args.forward at-if1.if1.true at_turn.turn.ensures
           at-decode.decode.ensures at-head-of.head_of.ensures,
     )
 
@@ -109,7 +109,7 @@ element-copy-out-last c =
     let start = at-if1.before.before.before.before in
     omega (
       arith,
-      head-below start.requires.0 start.args.forward at-if1.if1.true at_turn.turn.ensures
+      head_below start.requires.0 start.args.forward at-if1.if1.true at_turn.turn.ensures
           at-decode.decode.ensures at-head-of.head_of.ensures,
     )
 
@@ -118,14 +118,14 @@ mul-last-2 c =
     let at_turn = c.before.before.before.before.before.before.before in
     let at-if1 = at_turn.before in
     let start = at-if1.before.before.before.before in
-    omega (arith, its-turn start.requires.0 start.args.forward at-if1.if1.true at_turn.turn.ensures, (well-read _ _ start.requires.0.read).fewRules)
+    omega (arith, its_turn start.requires.0 start.args.forward at-if1.if1.true at_turn.turn.ensures, (well_read _ _ start.requires.0.read).few_rules)
 
 element-write-last : tie.Need-element-write-last invariant-loop decreases-loop
 element-write-last c =
     let at_turn = c.before.before.before.before.before.before.before in
     let at-if1 = at_turn.before in
     let start = at-if1.before.before.before.before in
-    omega (arith, its-turn start.requires.0 start.args.forward at-if1.if1.true at_turn.turn.ensures, (well-read _ _ start.requires.0.read).fewRules)
+    omega (arith, its_turn start.requires.0 start.args.forward at-if1.if1.true at_turn.turn.ensures, (well_read _ _ start.requires.0.read).few_rules)
 
 follow-rule-requires : tie.Need-follow-rule-requires invariant-loop decreases-loop
 follow-rule-requires c κs =
@@ -137,10 +137,10 @@ follow-rule-requires c κs =
     let at-loop = at-if1.before.before in
     let start = at-loop.before.before in
     let given = start.requires.0 in (
-      its-words given start.args.forward at-if1.if1.true at_turn.turn.ensures at_end_of.end_of_lem.ensures,
-      head-below given start.args.forward at-if1.if1.true at_turn.turn.ensures at-decode.decode.ensures at-head-of.head_of.ensures,
+      its_words given start.args.forward at-if1.if1.true at_turn.turn.ensures at_end_of.end_of_lem.ensures,
+      head_below given start.args.forward at-if1.if1.true at_turn.turn.ensures at-decode.decode.ensures at-head-of.head_of.ensures,
       at-loop.loop.invariant.0.long ∙ given.long,
-      last-asked given.begins at-loop.loop.invariant.1 (its-turn given start.args.forward at-if1.if1.true at_turn.turn.ensures),
+      last_asked given.begins at-loop.loop.invariant.1 (its_turn given start.args.forward at-if1.if1.true at_turn.turn.ensures),
     )
 
 either-requires : tie.Need-either-requires invariant-loop decreases-loop
@@ -168,17 +168,17 @@ loop-again c =
     let given = start.requires.0 in
     let forward = start.args.forward in
     let turn = at-follow-rule.follow-rule.ensures in (
-      follow-visit given _ _ forward _ at-loop.loop.invariant.0 at-if1.if1.true at_turn.turn.ensures
+      follow_visit given _ _ forward _ at-loop.loop.invariant.0 at-if1.if1.true at_turn.turn.ensures
           at-decode.decode.ensures at-head-of.head_of.ensures turn c.either.ensures,
-      last-next at-head-of.head_of.result given.begins (well-read _ _ given.read).fewRules
-          (its-turn given forward at-if1.if1.true at_turn.turn.ensures) at-loop.loop.invariant.1 refl turn,
+      last_next at-head-of.head_of.result given.begins (well_read _ _ given.read).few_rules
+          (its_turn given forward at-if1.if1.true at_turn.turn.ensures) at-loop.loop.invariant.1 refl turn,
     )
 
 returns : tie.Need-returns invariant-loop decreases-loop
 returns c =
     let inv = c.before.before.loop.invariant in
     let start = c.before.before.before.before in
-    (follows-end start.requires.0 _ _ start.args.forward inv.0 c.if1.false, inv.1)
+    (follows_end start.requires.0 _ _ start.args.forward inv.0 c.if1.false, inv.1)
 
 pub follow-rules-spec : {M : Type 1} → statement M
 follow-rules-spec =

@@ -1,19 +1,19 @@
 -- The loop has noted the rules from the one that it stands at on.
 use Prim.Native.Nat.{◌-◌, ◌≤◌}
 use native.Mathlib.Omega.{arith}
-use Rattle.base.specs.FiniteSets.{numbersFrom}
-use Rattle.table.proofs.ClaimedTwice.{Noting, noting-start, noting-turn, noting-end}
+use Rattle.base.specs.FiniteSets.{numbers_from}
+use Rattle.table.proofs.ClaimedTwice.{Noting, noting_start, noting_turn, noting_end}
 use Rattle.table.proofs.conflicts.claimed_twice.Statement.{statement}
 use Rattle.table.proofs.conflicts.claimed_twice.Tie as tie
 
 abbrev invariant-loop : tie.invariant-loop
-invariant-loop heads sets once₀ twice₀ rule₀ once twice rule = (rule ≤ rule₀) × Noting heads sets twice₀ (numbersFrom rule (rule₀ - rule)) once twice
+invariant-loop heads sets once₀ twice₀ rule₀ once twice rule = (rule ≤ rule₀) × Noting heads sets twice₀ (numbers_from rule (rule₀ - rule)) once twice
 
 abbrev decreases-loop : tie.decreases-loop
 decreases-loop heads sets once₀ twice₀ rule₀ once twice rule = rule
 
 loop-holds : tie.Need-loop-init invariant-loop decreases-loop
-loop-holds c = (omega arith, noting-start _ _ _ _ c.requires.1)
+loop-holds c = (omega arith, noting_start _ _ _ _ c.requires.1)
 
 sub-rule : tie.Need-overflow-sub-rule invariant-loop decreases-loop
 sub-rule c = omega arith
@@ -47,10 +47,10 @@ loop-again c =
     let loop = turn.before in
     let given = loop.before.requires.0 in
     let low = given.own (loop.loop.rule - 1) (omega arith) in
-    (omega arith, noting-turn _ _ loop.loop.invariant.1 turn.loop-test.true loop.loop.invariant.0 (omega (arith, given.allowed)) c.note.ensures)
+    (omega arith, noting_turn _ _ loop.loop.invariant.1 turn.loop-test.true loop.loop.invariant.0 (omega (arith, given.allowed)) c.note.ensures)
 
 returns : tie.Need-returns invariant-loop decreases-loop
-returns c = noting-end _ _ c.before.loop.invariant.1 c.loop-test.false
+returns c = noting_end _ _ c.before.loop.invariant.1 c.loop-test.false
 
 pub claimed-twice-spec : {M : Type 1} → statement M
 claimed-twice-spec =

@@ -1,7 +1,7 @@
 -- The first entry in the sets that are claimed twice.
 use mathlib.Core.Path.{◌∙◌}
 use borrow.Author.Rules.{rules}
-use Rattle.table.proofs.ConflictScan.{twice-claimed}
+use Rattle.table.proofs.ConflictScan.{twice_claimed}
 use Rattle.table.proofs.conflicts.first_conflict.Statement.{statement}
 use Rattle.table.proofs.conflicts.first_conflict.Tie as tie
 
@@ -12,7 +12,7 @@ first-entry-requires : tie.Need-first-entry-requires
 first-entry-requires c κs = search rules
 
 returns : tie.Need-returns
-returns c = c.first_entry.ensures ∙ twice-claimed _ _ _ c.before.before.claimed-twice.ensures
+returns c = c.first_entry.ensures ∙ twice_claimed _ _ _ c.before.before.claimed_twice.ensures
 
 pub first-conflict-spec : {M : Type 1} → statement M
 first-conflict-spec =

@@ -2,19 +2,19 @@
 use mathlib.Core.Path.{◌≡◌, sym, ◌∙◌}
 use Prim.Native.Nat.{◌-◌, ◌≤◌}
 use native.Mathlib.Omega.{arith}
-use Rattle.columns.specs.Columns.{columnCount}
-use Rattle.columns.specs.contracts.Columns.{columnElement}
-use Rattle.table_promises.specs.Conflicts.{conflictFrom}
-use Rattle.table.specs.contracts.Conflicts.{inSets}
-use Rattle.table.proofs.ConflictScan.{rows_all, row_here, row-later, rows_none}
+use Rattle.columns.specs.Columns.{column_count}
+use Rattle.columns.specs.inner.Columns.{column_element}
+use Rattle.table_promises.specs.Conflicts.{conflict_from}
+use Rattle.table.specs.inner.Conflicts.{in_sets}
+use Rattle.table.proofs.ConflictScan.{rows_all, row_here, row_later, rows_none}
 use Rattle.table.proofs.conflicts.first_entry.Statement.{statement}
 use Rattle.table.proofs.conflicts.first_entry.Tie as tie
 
 abbrev invariant-loop : tie.invariant-loop
 invariant-loop sets lookahead nonterminals terminals nonterminal₀ nonterminal =
     (nonterminal ≤ nonterminals)
-    × (conflictFrom (inSets (columnElement lookahead terminals) sets) (columnCount lookahead terminals) nonterminal (nonterminals - nonterminal)
-    ≡ conflictFrom (inSets (columnElement lookahead terminals) sets) (columnCount lookahead terminals) 0 nonterminals)
+    × (conflict_from (in_sets (column_element lookahead terminals) sets) (column_count lookahead terminals) nonterminal (nonterminals - nonterminal)
+    ≡ conflict_from (in_sets (column_element lookahead terminals) sets) (column_count lookahead terminals) 0 nonterminals)
 
 abbrev decreases-loop : tie.decreases-loop
 decreases-loop sets lookahead nonterminals terminals nonterminal₀ nonterminal = nonterminals - nonterminal
@@ -57,7 +57,7 @@ loop-less c = omega arith
 loop-again : tie.Need-loop-preserved invariant-loop decreases-loop
 loop-again c =
     let turn = c.before.before.before.before in
-    (omega arith, sym (row-later _ _ turn.loop-test.true c.before.before.first-column.ensures c.enum_told.given.1) ∙ turn.before.loop.invariant.1)
+    (omega arith, sym (row_later _ _ turn.loop-test.true c.before.before.first-column.ensures c.enum_told.given.1) ∙ turn.before.loop.invariant.1)
 
 returns-2 : tie.Need-returns-2 invariant-loop decreases-loop
 returns-2 c = sym (rows_none _ _ _ _ c.loop-test.false) ∙ c.before.loop.invariant.1

@@ -2,18 +2,18 @@
 use mathlib.Core.Path.{◌≡◌}
 use Prim.Native.Nat.{◌-◌, ◌≤◌}
 use native.Mathlib.Omega.{arith}
-use Rattle.columns.specs.Columns.{columnCount}
-use Rattle.columns.specs.contracts.Columns.{columnElement}
-use Rattle.table.specs.contracts.Entries.{FilledRow}
-use Rattle.columns.proofs.ColumnStrings.{column-count}
-use Rattle.table.proofs.FillSteps.{row-none, row_more}
+use Rattle.columns.specs.Columns.{column_count}
+use Rattle.columns.specs.inner.Columns.{column_element}
+use Rattle.table.specs.inner.Entries.{FilledRow}
+use Rattle.columns.proofs.ColumnStrings.{column_count_lem}
+use Rattle.table.proofs.FillSteps.{row_none, row_more}
 use Rattle.table.proofs.rows.fill_row.Statement.{statement}
 use Rattle.table.proofs.rows.fill_row.Tie as tie
 
 abbrev invariant-loop : tie.invariant-loop
 invariant-loop entries₀ row terminals claim rule lookahead columns column₀ entries column =
-    (columns ≡ columnCount lookahead terminals) × (column ≤ columns)
-    × FilledRow entries₀ row (columnElement lookahead terminals) column claim.bits rule entries
+    (columns ≡ column_count lookahead terminals) × (column ≤ columns)
+    × FilledRow entries₀ row (column_element lookahead terminals) column claim.bits rule entries
 
 abbrev decreases-loop : tie.decreases-loop
 decreases-loop entries₀ row terminals claim rule lookahead columns column₀ entries column = columns - column
@@ -22,7 +22,7 @@ count-requires : tie.Need-count-requires invariant-loop decreases-loop
 count-requires c κs = tt
 
 loop-holds : tie.Need-loop-init invariant-loop decreases-loop
-loop-holds c = (c.count.ensures, omega arith, row-none _ _ _ _ _)
+loop-holds c = (c.count.ensures, omega arith, row_none _ _ _ _ _)
 
 add_at : tie.Need-overflow-add-at invariant-loop decreases-loop
 add_at c = let given = c.before.before.before.requires in omega (arith, c.before.loop.invariant.0, given.2)
@@ -30,7 +30,7 @@ add_at c = let given = c.before.before.before.requires in omega (arith, c.before
 cast-element : tie.Need-overflow-cast-element invariant-loop decreases-loop
 cast-element c =
     let start = c.before.before.before in
-    omega (arith, c.before.loop.invariant.0, column-count start.args.lookahead start.args.terminals start.requires.1)
+    omega (arith, c.before.loop.invariant.0, column_count_lem start.args.lookahead start.args.terminals start.requires.1)
 
 element-requires : tie.Need-element-requires invariant-loop decreases-loop
 element-requires c κs = tt
@@ -66,7 +66,7 @@ loop-again c =
 returns : tie.Need-returns invariant-loop decreases-loop
 returns c =
     let loop = c.before in
-    let e : loop.loop.column ≡ columnCount loop.before.before.args.lookahead loop.before.before.args.terminals =
+    let e : loop.loop.column ≡ column_count loop.before.before.args.lookahead loop.before.before.args.terminals =
     omega (arith, loop.loop.invariant.0) in
     rw e at loop.loop.invariant.2
 

@@ -3,21 +3,21 @@ use mathlib.Core.Path.{◌≡◌, ◌∙◌}
 use Prim.Native.Nat.{ℕ, ◌-◌, ◌≤◌}
 use native.Mathlib.Omega.{arith}
 use lib.ListN.{length-replicate}
-use Rattle.grammar.specs.contracts.Codes.{noRule}
-use Rattle.grammar.specs.contracts.Limits.{maxEntries}
-use Rattle.base.specs.FiniteSets.{numbersFrom}
-use Rattle.columns.specs.Columns.{columnCount}
-use Rattle.claims.specs.contracts.Claims.{Headed}
-use Rattle.table.specs.contracts.Entries.{FilledRows, noRules, rows_of}
-use Rattle.table.proofs.FillInvariant.{row_room, rows_start, rows-turn, rows_end}
+use Rattle.grammar.specs.inner.Codes.{no_rule}
+use Rattle.grammar.specs.inner.Limits.{max_entries}
+use Rattle.base.specs.FiniteSets.{numbers_from}
+use Rattle.columns.specs.Columns.{column_count}
+use Rattle.claims.specs.inner.Claims.{Headed}
+use Rattle.table.specs.inner.Entries.{FilledRows, no_rules, rows_of}
+use Rattle.table.proofs.FillInvariant.{row_room, rows_start, rows_turn, rows_end}
 use Rattle.table.proofs.rows.rows.Statement.{statement}
 use Rattle.table.proofs.rows.rows.Tie as tie
 
 abbrev invariant-loop : tie.invariant-loop
 invariant-loop heads sets entries₀ lookahead terminals columns rule₀ entries rule =
-    (columns ≡ columnCount lookahead terminals)
+    (columns ≡ column_count lookahead terminals)
     × (rule ≤ rule₀)
-    × ((n : ℕ) → Headed heads rule₀ n → FilledRows (rows_of lookahead n terminals) heads sets rule (numbersFrom rule (rule₀ - rule)) noRules entries)
+    × ((n : ℕ) → Headed heads rule₀ n → FilledRows (rows_of lookahead n terminals) heads sets rule (numbers_from rule (rule₀ - rule)) no_rules entries)
 
 abbrev decreases-loop : tie.decreases-loop
 decreases-loop heads sets entries₀ lookahead terminals columns rule₀ entries rule = rule
@@ -65,8 +65,8 @@ fill-row-requires : tie.Need-fill-row-requires invariant-loop decreases-loop
 fill-row-requires c κs =
     let loop = c.before.before.before.before in
     let given = loop.before.before.before.requires in
-    let long = (loop.loop.invariant.2 _ given.headed).long ∙ length-replicate {A = ℕ} maxEntries noRule in
-    (long, given.fewTerminals, rw loop.loop.invariant.0 (omega (arith, row_room given (loop.loop.rule - 1) (omega arith))))
+    let long = (loop.loop.invariant.2 _ given.headed).long ∙ length-replicate {A = ℕ} max_entries no_rule in
+    (long, given.few_terminals, rw loop.loop.invariant.0 (omega (arith, row_room given (loop.loop.rule - 1) (omega arith))))
 
 loop-less : tie.Need-loop-smaller invariant-loop decreases-loop
 loop-less c = omega arith
@@ -78,7 +78,7 @@ loop-again c =
     let row = rw loop.loop.invariant.0 at c.fill-row.ensures in (
       loop.loop.invariant.0,
       omega arith,
-      λ n h. rows-turn _ _ (loop.loop.invariant.2 n h) turn.loop-test.true loop.loop.invariant.1 (h.own _ (omega arith)) row,
+      λ n h. rows_turn _ _ (loop.loop.invariant.2 n h) turn.loop-test.true loop.loop.invariant.1 (h.own _ (omega arith)) row,
     )
 
 returns : tie.Need-returns invariant-loop decreases-loop

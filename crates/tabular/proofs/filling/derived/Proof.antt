@@ -1,8 +1,8 @@
 -- The loop keeps `AskingNext`: of the rules from number `rule` on, those of the rank have been asked.
 use Prim.Native.Nat.{◌-◌}
 use native.Mathlib.Omega.{arith}
-use Rattle.grammar.proofs.WellRead.{well-read}
-use Rattle.tabular_promises.proofs.RuleRanks.{AskingNext, rules-start, rules-more, rules-end, asked-right}
+use Rattle.grammar.proofs.WellRead.{well_read}
+use Rattle.tabular_promises.proofs.RuleRanks.{AskingNext, rules_start, rules_more, rules_end, asked_right}
 use Rattle.tabular.proofs.filling.derived.Statement.{statement}
 use Rattle.tabular.proofs.filling.derived.Tie as tie
 
@@ -20,7 +20,7 @@ element-copy-out-rule : tie.Need-element-copy-out-rule invariant-loop decreases-
 element-copy-out-rule c = omega (arith, c.before.requires.low)
 
 loop-holds : tie.Need-loop-init invariant-loop decreases-loop
-loop-holds c = rules-start c.before.before.requires.rules c.before.before.requires.ranked c.before.before.requires.low
+loop-holds c = rules_start c.before.before.requires.rules c.before.before.requires.ranked c.before.before.requires.low
 
 sub-asked : tie.Need-overflow-sub-asked invariant-loop decreases-loop
 sub-asked c = omega (arith, c.loop-test.true)
@@ -33,14 +33,14 @@ mul-rule-2 c =
     let at-loop-test = c.before in
     let at-loop = at-loop-test.before in
     let start = at-loop.before.before.before in
-    omega (arith, at-loop-test.loop-test.true, at-loop.loop.invariant.asking.high, (well-read _ _ start.requires.rules.read).fewRules)
+    omega (arith, at-loop-test.loop-test.true, at-loop.loop.invariant.asking.high, (well_read _ _ start.requires.rules.read).few_rules)
 
 element-copy-out-rule-2 : tie.Need-element-copy-out-rule-2 invariant-loop decreases-loop
 element-copy-out-rule-2 c =
     let at-loop-test = c.before in
     let at-loop = at-loop-test.before in
     let start = at-loop.before.before.before in
-    omega (arith, at-loop-test.loop-test.true, at-loop.loop.invariant.asking.high, (well-read _ _ start.requires.rules.read).fewRules)
+    omega (arith, at-loop-test.loop-test.true, at-loop.loop.invariant.asking.high, (well_read _ _ start.requires.rules.read).few_rules)
 
 loop-less : tie.Need-loop-smaller invariant-loop decreases-loop
 loop-less c =
@@ -57,12 +57,12 @@ loop-again c =
     let at-loop = at-loop-test.before in
     let start = at-loop.before.before.before in
     let test = at-loop-test.loop-test.true in
-    rules-more start.requires.rules start.requires.ranked at-loop.loop.invariant test
-    (asked-right record { rules = start.requires.rules; numbered = omega (arith, test, at-loop.loop.invariant.asking.high); span = start.requires.span }
+    rules_more start.requires.rules start.requires.ranked at-loop.loop.invariant test
+    (asked_right record { rules = start.requires.rules; numbered = omega (arith, test, at-loop.loop.invariant.asking.high); span = start.requires.span }
     start.args.stands.now start.args.chart.now at-loop.loop.found at-ask.ask.ensures)
 
 returns : tie.Need-returns invariant-loop decreases-loop
-returns c = rules-end c.before.before.before.before.requires.rules c.before.loop.invariant c.loop-test.false
+returns c = rules_end c.before.before.before.before.requires.rules c.before.loop.invariant c.loop-test.false
 
 pub derived-spec : {M : Type 1} → statement M
 derived-spec =

@@ -1,8 +1,8 @@
 -- The loop keeps the chart filled up to the turn of the start.
 use Prim.Native.Nat.{suc, ◌+◌, ◌-◌, ◌≤◌}
 use native.Mathlib.Omega.{arith}
-use Rattle.tabular_promises.specs.contracts.Filling.{turn, Fills}
-use Rattle.tabular_promises.proofs.Turns.{length-start, length_more, length-end}
+use Rattle.tabular_promises.specs.inner.Filling.{turn, Fills}
+use Rattle.tabular_promises.proofs.Turns.{length_start, length_more, length_end}
 use Rattle.tabular.proofs.filling.fill_length.Statement.{statement}
 use Rattle.tabular.proofs.filling.fill_length.Tie as tie
 
@@ -14,7 +14,7 @@ abbrev decreases-loop : tie.decreases-loop
 decreases-loop words starts lasts befores sizes stands chart₀ tokens length start₀ chart start = suc tokens - start
 
 loop-holds : tie.Need-loop-init invariant-loop decreases-loop
-loop-holds c = (omega arith, length-start c.before.args.length c.before.requires.given.long)
+loop-holds c = (omega arith, length_start c.before.args.length c.before.requires.given.long)
 
 add-loop : tie.Need-overflow-add-loop invariant-loop decreases-loop
 add-loop c = omega (arith, c.loop.invariant.0, c.before.before.requires.short, c.before.before.requires.within)
@@ -52,7 +52,7 @@ loop-again c =
 
 returns : tie.Need-returns invariant-loop decreases-loop
 returns c =
-    length-end c.before.loop.start c.before.before.before.args.length c.before.before.before.requires c.loop-test.false
+    length_end c.before.loop.start c.before.before.before.args.length c.before.before.before.requires c.loop-test.false
     c.before.loop.invariant.0 c.before.loop.invariant.1
 
 pub fill-length-spec : {M : Type 1} → statement M

@@ -1,22 +1,22 @@
 -- The loop keeps the chart filled up to the turn of the rank.
 use Prim.Native.Nat.{◌-◌, ◌≤◌}
 use native.Mathlib.Omega.{arith}
-use Rattle.grammar.specs.Limits.{maxTabularTokens}
-use Rattle.tabular_promises.specs.contracts.Filling.{turn, Fills}
-use Rattle.tabular_promises.proofs.Charts.{added-right}
-use Rattle.tabular_promises.proofs.Turns.{few, settling-start, settling-more, settled}
+use Rattle.grammar.specs.Limits.{max_tabular_tokens}
+use Rattle.tabular_promises.specs.inner.Filling.{turn, Fills}
+use Rattle.tabular_promises.proofs.Charts.{added_right}
+use Rattle.tabular_promises.proofs.Turns.{few, settling_start, settling_more, settled}
 use Rattle.tabular.proofs.filling.settle.Statement.{statement}
 use Rattle.tabular.proofs.filling.settle.Tie as tie
 
 abbrev invariant-loop : tie.invariant-loop
 invariant-loop words starts lasts befores sizes stands chart₀ start end nonterminals rank₀ chart rank =
-    (rank ≤ nonterminals) × Fills words stands chart₀ end maxTabularTokens (turn start end 0) (turn start end rank) chart
+    (rank ≤ nonterminals) × Fills words stands chart₀ end max_tabular_tokens (turn start end 0) (turn start end rank) chart
 
 abbrev decreases-loop : tie.decreases-loop
 decreases-loop words starts lasts befores sizes stands chart₀ start end nonterminals rank₀ chart rank = nonterminals - rank
 
 loop-holds : tie.Need-loop-init invariant-loop decreases-loop
-loop-holds c = (omega arith, settling-start c.before.requires.given.long)
+loop-holds c = (omega arith, settling_start c.before.requires.given.long)
 
 derived-requires : tie.Need-derived-requires invariant-loop decreases-loop
 derived-requires c κs =
@@ -48,8 +48,8 @@ loop-again c =
     let at-loop = at-loop-test.before in
     let start = at-loop.before.before in (
       omega (arith, at-loop-test.loop-test.true),
-      settling-more start.requires at-loop-test.loop-test.true at-loop.loop.invariant.1 at-derived.derived.ensures
-          (added-right record { long = at-loop.loop.invariant.1.long; given = record { span = start.requires.span; few = few start.requires.given } }
+      settling_more start.requires at-loop-test.loop-test.true at-loop.loop.invariant.1 at-derived.derived.ensures
+          (added_right record { long = at-loop.loop.invariant.1.long; given = record { span = start.requires.span; few = few start.requires.given } }
           c.add.ensures),
     )
 

@@ -2,7 +2,7 @@
 use native.Mathlib.Omega.{arith}
 use borrow.Author.Rules.{rules}
 use Rattle.text.proofs.Writing.{put_then}
-use Rattle.text.proofs.Decimal.{decimal-last, decimal-more}
+use Rattle.text.proofs.Decimal.{decimal_last, decimal_more}
 use Prim.Native.Nat.{ℕ, ◌<◌}
 use borrow.Fn.Kinds.{In}
 use borrow.Fn.PlainCycle.{Measures, is, falls, and}
@@ -94,7 +94,7 @@ put-number-returns : (t : ℕ) → put-number-lts.Need-returns (
   put-number-below t,
   put-number.Post,
 ) (put-number-at t) put-number.Post
-put-number-returns t c = rw (decimal-last _ c.before.before.before.before.if1.true) c.before.before.put_byte.ensures
+put-number-returns t c = rw (decimal_last _ c.before.before.before.before.if1.true) c.before.before.put_byte.ensures
 
 put-number-same-length-2 : (t : ℕ) → put-number-lts.Need-same-length-2 (
   put-byte-reads.Asked,
@@ -114,7 +114,7 @@ put-number-returns-2 t c =
     let at-put-byte2 = c.before.before in
     let at-put-number = at-put-byte2.before.before.before.before in
     let at-if1 = at-put-number.before.before in
-    rw (decimal-more _ at-if1.if1.false (omega arith)) (put_then at-put-number.put-number.ensures at-put-byte2.put-byte2.ensures)
+    rw (decimal_more _ at-if1.if1.false (omega arith)) (put_then at-put-number.put-number.ensures at-put-byte2.put-byte2.ensures)
 
 pub +put-number-spec : {M : Type 1} → statement M
 +put-number-spec = close μ-put-number λ t. put-number-lts.spec (

@@ -1,5 +1,5 @@
 -- A byte is put where there is room.
-use Rattle.text.proofs.Writing.{put-lost}
+use Rattle.text.proofs.Writing.{put_lost}
 use borrow.Author.Rules.{rules}
 use Rattle.text.proofs.put.put_byte.Statement.{statement}
 use Rattle.text.proofs.put.put_byte.Tie as tie
@@ -17,7 +17,7 @@ returns : tie.Need-returns
 returns c = search rules
 
 returns-2 : tie.Need-returns-2
-returns-2 c = put-lost _ _ _ c.if1.false
+returns-2 c = put_lost _ _ _ c.if1.false
 
 pub put-byte-spec : {M : Type 1} → statement M
 put-byte-spec = tie.close (tie.spec slice-write-out add-result same_length returns returns-2)

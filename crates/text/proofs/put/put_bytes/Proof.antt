@@ -3,7 +3,7 @@ use Prim.Native.Nat.{◌≤◌, ◌-◌}
 use native.Mathlib.Omega.{arith}
 use lib.ListN.{length, take}
 use Rattle.text.specs.Writing.{Put}
-use Rattle.text.proofs.Writing.{put-length, put-none, put-more, put_all}
+use Rattle.text.proofs.Writing.{put_length, put_none, put_more, put_all}
 use Rattle.text.proofs.put.put_bytes.Statement.{statement}
 use Rattle.text.proofs.put.put_bytes.Tie as tie
 
@@ -14,7 +14,7 @@ abbrev decreases-loop : tie.decreases-loop
 decreases-loop out₀ at bytes next₀ i₀ out next i = length bytes - i
 
 loop-holds : tie.Need-loop-init invariant-loop decreases-loop
-loop-holds c = (omega arith, put-none _ _)
+loop-holds c = (omega arith, put_none _ _)
 
 shared-slice-read-put-byte : tie.Need-shared-slice-read-put-byte invariant-loop decreases-loop
 shared-slice-read-put-byte c = omega arith
@@ -33,10 +33,10 @@ loop-again c =
     let at-put-byte = c.before.before in
     let at-loop-test = at-put-byte.before.before.before in
     let at-loop = at-loop-test.before in
-    (omega arith, put-more _ _ at-loop-test.loop-test.true at-loop.loop.invariant.1 at-put-byte.put_byte.ensures)
+    (omega arith, put_more _ _ at-loop-test.loop-test.true at-loop.loop.invariant.1 at-put-byte.put_byte.ensures)
 
 same_length : tie.Need-same-length invariant-loop decreases-loop
-same_length c = put-length c.before.loop.invariant.1
+same_length c = put_length c.before.loop.invariant.1
 
 returns : tie.Need-returns invariant-loop decreases-loop
 returns c = put_all _ _ c.loop-test.false c.before.loop.invariant.1

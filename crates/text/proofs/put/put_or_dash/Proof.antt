@@ -1,5 +1,5 @@
 -- By whether the number is the code for none.
-use Rattle.text.proofs.Lines.{dash-put, number_put}
+use Rattle.text.proofs.Lines.{dash_put, number_put}
 use borrow.Author.Rules.{rules}
 use Rattle.text.proofs.put.put_or_dash.Statement.{statement}
 use Rattle.text.proofs.put.put_or_dash.Tie as tie
@@ -23,7 +23,7 @@ returns : tie.Need-returns
 returns c =
     let at-put-bytes = c.before.before in
     let at-if1 = at-put-bytes.before.before.before in
-    dash-put _ at-if1.if1.true at-put-bytes.put-bytes.ensures
+    dash_put _ at-if1.if1.true at-put-bytes.put-bytes.ensures
 
 same-length-2 : tie.Need-same-length-2
 same-length-2 c = search rules

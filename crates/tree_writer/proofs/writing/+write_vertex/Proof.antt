@@ -6,11 +6,11 @@ use Prim.Native.Nat.{ℕ, ◌+◌, ◌*◌, ◌-◌, ◌<◌}
 use native.Mathlib.Omega.{arith}
 use lib.ListN.{length}
 use Rattle.word.specs.declared.Word.TheVariants.{Symbol}
-use Rattle.grammar.specs.Limits.{maxPlaces, maxMemoEntries}
-use Rattle.tree_writer_promises.specs.contracts.Writer.{VertexGiven, falling}
-use Rattle.tree_writer_promises.proofs.Vertices.{Onward, Going, going-as, neither, is-terminal, entry-low, index-small, begins, vertex-seen, rule-low}
-use Rattle.tree_writer_promises.proofs.Vertices.{begin-low, written_low, tree-room, going_start, going-over, going-ended, going-positive, going-terminal}
-use Rattle.tree_writer_promises.proofs.Vertices.{terminal-low, called-found, called-falling, called-given, called-ends, going-nonterminal, going-length}
+use Rattle.grammar.specs.Limits.{max_places, max_memo_entries}
+use Rattle.tree_writer_promises.specs.inner.Writer.{VertexGiven, falling}
+use Rattle.tree_writer_promises.proofs.Vertices.{Onward, Going, going_as, neither, is_terminal, entry_low, index_small, begins, vertex_seen, rule_low}
+use Rattle.tree_writer_promises.proofs.Vertices.{begin_low, written_low, tree_room, going_start, going_over, going_ended, going_positive, going_terminal}
+use Rattle.tree_writer_promises.proofs.Vertices.{terminal_low, called_found, called_falling, called_given, called_ends, going_nonterminal, going_length}
 use borrow.Fn.Kinds.{In}
 use borrow.Fn.PlainCycle.{Measures, is, falls, and}
 use Rattle.tree_writer.proofs.writing.write_vertex.Reads as write-vertex
@@ -103,7 +103,7 @@ below-low : (t : ℕ)
     (c : write-vertex-lts.After-known-told2 (write-vertex-claims t) (write-vertex-at t) write-vertex.Post write-vertex-Inv-loop write-vertex-μ-loop)
     → let at-word = c.before.before.before.before in
     let loop = at-word.before.before.before.before.before in
-    c.before.symbol.given.0.0 * maxPlaces + loop.loop.place < maxMemoEntries
+    c.before.symbol.given.0.0 * max_places + loop.loop.place < max_memo_entries
 below-low t c =
     let at-word = c.before.before.before.before in
     let at-decode = at-word.before.before in
@@ -111,15 +111,15 @@ below-low t c =
     let loop = at-loop-test.before in
     let g = (start_of t loop).requires.1.1.1.1 in
     let e = sym at-decode.decode.ensures ∙ at-word.word.given.1 ∙ ap Symbol c.before.symbol.given.1 in
-    index-small g (called-found g (going t loop _ _ _ g) at-loop-test.loop-test.true _ e)
+    index_small g (called_found g (going t loop _ _ _ g) at-loop-test.loop-test.true _ e)
 
 write-vertex-mul-vertex : (t : ℕ)
     → write-vertex-lts.Need-overflow-mul-vertex (write-vertex-claims t) (write-vertex-at t) write-vertex.Post write-vertex-Inv-loop write-vertex-μ-loop
-write-vertex-mul-vertex t c = omega (arith, entry-low c.before.before.requires.1.1.1.1)
+write-vertex-mul-vertex t c = omega (arith, entry_low c.before.before.requires.1.1.1.1)
 
 write-vertex-element-copy-out-vertex : (t : ℕ)
     → write-vertex-lts.Need-element-copy-out-vertex (write-vertex-claims t) (write-vertex-at t) write-vertex.Post write-vertex-Inv-loop write-vertex-μ-loop
-write-vertex-element-copy-out-vertex t c = entry-low c.before.before.requires.1.1.1.1
+write-vertex-element-copy-out-vertex t c = entry_low c.before.before.requires.1.1.1.1
 
 write-vertex-is-marked-requires : (t : ℕ)
     → write-vertex-lts.Need-is-marked-requires (write-vertex-claims t) (write-vertex-at t) write-vertex.Post write-vertex-Inv-loop write-vertex-μ-loop
@@ -127,7 +127,7 @@ write-vertex-is-marked-requires t c κs = tt
 
 write-vertex-returns : (t : ℕ)
     → write-vertex-lts.Need-returns (write-vertex-claims t) (write-vertex-at t) write-vertex.Post write-vertex-Inv-loop write-vertex-μ-loop
-write-vertex-returns t c = λ input A start g. vertex-seen g (sym c.before.is-marked.ensures ∙ c.if1.true)
+write-vertex-returns t c = λ input A start g. vertex_seen g (sym c.before.is-marked.ensures ∙ c.if1.true)
 
 write-vertex-marked-requires : (t : ℕ)
     → write-vertex-lts.Need-marked-requires (write-vertex-claims t) (write-vertex-at t) write-vertex.Post write-vertex-Inv-loop write-vertex-μ-loop
@@ -137,13 +137,13 @@ write-vertex-mul-labels : (t : ℕ)
     → write-vertex-lts.Need-overflow-mul-labels (write-vertex-claims t) (write-vertex-at t) write-vertex.Post write-vertex-Inv-loop write-vertex-μ-loop
 write-vertex-mul-labels t c =
     let at-is-marked = c.before.before in
-    omega (arith, entry-low at-is-marked.before.before.before.before.requires.1.1.1.1)
+    omega (arith, entry_low at-is-marked.before.before.before.before.requires.1.1.1.1)
 
 write-vertex-element-write-labels : (t : ℕ)
     → write-vertex-lts.Need-element-write-labels (write-vertex-claims t) (write-vertex-at t) write-vertex.Post write-vertex-Inv-loop write-vertex-μ-loop
 write-vertex-element-write-labels t c =
     let at-is-marked = c.before.before in
-    omega (arith, entry-low at-is-marked.before.before.before.before.requires.1.1.1.1)
+    omega (arith, entry_low at-is-marked.before.before.before.before.requires.1.1.1.1)
 
 write-vertex-mul-tree : (t : ℕ)
     → write-vertex-lts.Need-overflow-mul-tree (write-vertex-claims t) (write-vertex-at t) write-vertex.Post write-vertex-Inv-loop write-vertex-μ-loop
@@ -161,7 +161,7 @@ write-vertex-slice-write-tree t c =
     let at-is-marked = at-if1.before in
     let start = at-is-marked.before.before.before.before in
     let unmarked = sym at-is-marked.is-marked.ensures ∙ at-if1.if1.false in
-    tree-room start.requires.1.1.1.1 unmarked
+    tree_room start.requires.1.1.1.1 unmarked
 
 write-vertex-start-of-requires : (t : ℕ)
     → write-vertex-lts.Need-start-of-requires (write-vertex-claims t) (write-vertex-at t) write-vertex.Post write-vertex-Inv-loop write-vertex-μ-loop
@@ -187,7 +187,7 @@ write-vertex-mul-at t c =
     let at-is-marked = at-if1.before in
     let start = at-is-marked.before.before.before.before in
     let unmarked = sym at-is-marked.is-marked.ensures ∙ at-if1.if1.false in
-    omega (arith, rule-low start.requires.1.1.1.1 unmarked c.rule-of.ensures)
+    omega (arith, rule_low start.requires.1.1.1.1 unmarked c.rule-of.ensures)
 
 write-vertex-element-copy-out-at : (t : ℕ)
     → write-vertex-lts.Need-element-copy-out-at (write-vertex-claims t) (write-vertex-at t) write-vertex.Post write-vertex-Inv-loop write-vertex-μ-loop
@@ -196,7 +196,7 @@ write-vertex-element-copy-out-at t c =
     let at-is-marked = at-if1.before in
     let start = at-is-marked.before.before.before.before in
     let unmarked = sym at-is-marked.is-marked.ensures ∙ at-if1.if1.false in
-    rule-low start.requires.1.1.1.1 unmarked c.rule-of.ensures
+    rule_low start.requires.1.1.1.1 unmarked c.rule-of.ensures
 
 write-vertex-add-at : (t : ℕ)
     → write-vertex-lts.Need-overflow-add-at (write-vertex-claims t) (write-vertex-at t) write-vertex.Post write-vertex-Inv-loop write-vertex-μ-loop
@@ -206,7 +206,7 @@ write-vertex-add-at t c =
     let at-is-marked = at-if1.before in
     let start = at-is-marked.before.before.before.before in
     let unmarked = sym at-is-marked.is-marked.ensures ∙ at-if1.if1.false in
-    omega (arith, begin-low start.requires.1.1.1.1 unmarked at-rule-of.rule-of.ensures)
+    omega (arith, begin_low start.requires.1.1.1.1 unmarked at-rule-of.rule-of.ensures)
 
 write-vertex-loop-holds : (t : ℕ)
     → write-vertex-lts.Need-loop-init (write-vertex-claims t) (write-vertex-at t) write-vertex.Post write-vertex-Inv-loop write-vertex-μ-loop
@@ -244,9 +244,9 @@ write-vertex-add-place t c =
     let at-loop-test = at-decode.before.before in
     let loop = at-loop-test.before in
     let g = (start_of t loop).requires.1.1.1.1 in
-    let a = is-terminal at-word.word.given.0.0 c.before.match2.keys1 in
+    let a = is_terminal at-word.word.given.0.0 c.before.match2.keys1 in
     let e = sym at-decode.decode.ensures ∙ at-word.word.given.1 ∙ ap Symbol a.1 in
-    omega (arith, terminal-low g (going t loop _ _ _ g) at-loop-test.loop-test.true a.0 e, g.accepted.short)
+    omega (arith, terminal_low g (going t loop _ _ _ g) at-loop-test.loop-test.true a.0 e, g.accepted.short)
 
 write-vertex-enum-known-symbol : (t : ℕ)
     → write-vertex-lts.Need-enum-known-symbol (write-vertex-claims t) (write-vertex-at t) write-vertex.Post write-vertex-Inv-loop write-vertex-μ-loop
@@ -277,8 +277,8 @@ write-vertex-write-vertex-requires t c κs =
     let u = going t loop _ _ _ g in
     let h = at-loop-test.loop-test.true in
     let e = sym at-decode.decode.ensures ∙ at-word.word.given.1 ∙ ap Symbol at_symbol.symbol.given.1 in (
-      omega (arith, called-falling g u h _ e, pre.0),
-      (pre.1.0, (_, (_, called-given g u h _ e))),
+      omega (arith, called_falling g u h _ e, pre.0),
+      (pre.1.0, (_, (_, called_given g u h _ e))),
     )
 
 write-vertex-mul-end-of : (t : ℕ)
@@ -302,14 +302,14 @@ write-vertex-same-length : (t : ℕ)
 write-vertex-same-length t c =
     let loop = c.before.before.before.before in
     let g = (start_of t loop).requires.1.1.1.1 in
-    going-length g (going t loop _ _ _ g)
+    going_length g (going t loop _ _ _ g)
 
 write-vertex-returns-2 : (t : ℕ)
     → write-vertex-lts.Need-returns-2 (write-vertex-claims t) (write-vertex-at t) write-vertex.Post write-vertex-Inv-loop write-vertex-μ-loop
 write-vertex-returns-2 t c = λ input A start g.
     let at-loop-test = c.before.before.before in
     let n = neither _ c.match.keys3 in
-    going-ended g (going t at-loop-test.before input A start g) at-loop-test.loop-test.true _ c.before.decode.ensures n.0 n.1
+    going_ended g (going t at-loop-test.before input A start g) at-loop-test.loop-test.true _ c.before.decode.ensures n.0 n.1
 
 write-vertex-add-at-2 : (t : ℕ)
     → write-vertex-lts.Need-overflow-add-at-2 (write-vertex-claims t) (write-vertex-at t) write-vertex.Post write-vertex-Inv-loop write-vertex-μ-loop
@@ -327,26 +327,26 @@ write-vertex-loop-again t c = λ input labels₀ tree₀ A start g b s.
     let h = at-loop-test.loop-test.true in
     let e = sym c.before.decode.ensures in
     ⊎_elim
-    (λ w. going-as g w.2 w.3 w.4 (w.5 ∙ b) (going-positive g u h (e ∙ w.1.given.1)))
+    (λ w. going_as g w.2 w.3 w.4 (w.5 ∙ b) (going_positive g u h (e ∙ w.1.given.1)))
     (⊎_elim
     (λ w.
-    let a = is-terminal w.1.given.0.0 w.3.keys1 in
-    going-as g w.5 w.6 w.7 w.8 (going-terminal g u h a.0 (e ∙ w.1.given.1 ∙ ap Symbol a.1)))
+    let a = is_terminal w.1.given.0.0 w.3.keys1 in
+    going_as g w.5 w.6 w.7 w.8 (going_terminal g u h a.0 (e ∙ w.1.given.1 ∙ ap Symbol a.1)))
     (λ w.
     let e' = e ∙ w.1.given.1 ∙ ap Symbol w.4.given.1 in
-    let v = going-nonterminal g u h _ e' (w.8.ensures input _ _ (called-given g u h _ e')) in
-    going-as g w.13 w.14 w.15 (w.16 ∙ w.12.ensures ∙ called-ends g u h _ e' v) v))
+    let v = going_nonterminal g u h _ e' (w.8.ensures input _ _ (called_given g u h _ e')) in
+    going_as g w.13 w.14 w.15 (w.16 ∙ w.12.ensures ∙ called_ends g u h _ e' v) v))
     c.match.branch
 
 write-vertex-same-length-2 : (t : ℕ)
     → write-vertex-lts.Need-same-length-2 (write-vertex-claims t) (write-vertex-at t) write-vertex.Post write-vertex-Inv-loop write-vertex-μ-loop
 write-vertex-same-length-2 t c =
     let g = (start_of t c.before).pre.1.1.1.1 in
-    going-length g (going t c.before _ _ _ g)
+    going_length g (going t c.before _ _ _ g)
 
 write-vertex-returns-3 : (t : ℕ)
     → write-vertex-lts.Need-returns-3 (write-vertex-claims t) (write-vertex-at t) write-vertex.Post write-vertex-Inv-loop write-vertex-μ-loop
-write-vertex-returns-3 t c = λ input A start g. going-over g (going t c.before input A start g) c.loop-test.false
+write-vertex-returns-3 t c = λ input A start g. going_over g (going t c.before input A start g) c.loop-test.false
 
 pub +write-vertex-spec : {M : Type 1} → statement M
 +write-vertex-spec = close μ-write-vertex λ t. write-vertex-lts.spec (write-vertex-claims t)

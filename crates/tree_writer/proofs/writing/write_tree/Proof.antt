@@ -1,6 +1,6 @@
 -- The tree is written from its root, by the starts of the rules and the words of the vertices.
 use borrow.Author.Rules.{rules}
-use Rattle.tree_writer_promises.proofs.Root.{tree-start, tree-done}
+use Rattle.tree_writer_promises.proofs.Root.{tree_start, tree_done}
 use Rattle.tree_writer.proofs.writing.write_tree.Statement.{statement}
 use Rattle.tree_writer.proofs.writing.write_tree.Tie as tie
 
@@ -15,7 +15,7 @@ write-vertex-requires c κs =
     let at-labels-of = c.before.before.before in
     let at-rule-starts = at-labels-of.before in
     let start = at-rule-starts.before.before.before.before.before.before.before in
-    tree-start start.requires at-rule-starts.rule-starts.ensures at-labels-of.labels-of.ensures
+    tree_start start.requires at-rule-starts.rule-starts.ensures at-labels-of.labels-of.ensures
 
 same_length : tie.Need-same-length
 same_length c = search rules
@@ -26,7 +26,7 @@ returns c =
     let at-labels-of = at-write-vertex.before.before.before.before in
     let at-rule-starts = at-labels-of.before in
     let start = at-rule-starts.before.before.before.before.before.before.before in
-    tree-done start.requires at-rule-starts.rule-starts.ensures at-labels-of.labels-of.ensures at-write-vertex.write-vertex.ensures
+    tree_done start.requires at-rule-starts.rule-starts.ensures at-labels-of.labels-of.ensures at-write-vertex.write-vertex.ensures
 
 pub write-tree-spec : {M : Type 1} → statement M
 write-tree-spec =

@@ -1,6 +1,6 @@
 -- By the kinds of answers.
-use Rattle.usage.specs.Counters.{eachCounter}
-use Rattle.usage.specs.Histories.{countedAnswer}
+use Rattle.usage.specs.Counters.{each_counter}
+use Rattle.usage.specs.Histories.{counted_answer}
 use borrow.Author.Rules.{rules}
 use Rattle.usage.proofs.Usage.after.Statement.{statement}
 use Rattle.usage.proofs.Usage.after.Tie as tie
@@ -30,19 +30,19 @@ plus-requires-4 : tie.Need-plus-requires-4
 plus-requires-4 c κs = search rules
 
 returns : tie.Need-returns
-unfolding countedAnswer eachCounter
+unfolding counted_answer each_counter
 returns c = rw c.before.enum_told.given.1 c.plus.ensures
 
 returns-2 : tie.Need-returns-2
-unfolding countedAnswer eachCounter
+unfolding counted_answer each_counter
 returns-2 c = rw c.before.enum-told2.given.1 c.plus2.ensures
 
 returns-3 : tie.Need-returns-3
-unfolding countedAnswer eachCounter
+unfolding counted_answer each_counter
 returns-3 c = rw c.before.before.answer.given.1 c.plus3.ensures
 
 returns-4 : tie.Need-returns-4
-unfolding countedAnswer eachCounter
+unfolding counted_answer each_counter
 returns-4 c = rw c.before.before.answer2.given.1 c.plus4.ensures
 
 pub after-spec : {M : Type 1} → statement M

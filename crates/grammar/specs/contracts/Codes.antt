@@ -1,6 +1,0 @@
--- The code for no rule, where rules are bytes.
-use Rattle.std.specs.Prelude.{ℕ}
-
--- `noEntry` where rules are bytes
-abbrev pub noRule : ℕ
-noRule = 255
