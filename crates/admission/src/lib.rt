@@ -1,4 +1,6 @@
 // Which encoded grammars a lookahead takes: reading, and the faults that stand beside it with two tokens of lookahead.
+#![tactic(auto)]
+
 ghost use Rattle.std.specs.Prelude.{◌≡◌, ◌&&◌};
 ghost use Rattle.grammar.specs.Encoding.{grammar_of};
 ghost use Rattle.admission.specs.Admission.{begins_negative, first_alone, of_heading, word_fault, faulty_or, two_tokens_fault, admission};

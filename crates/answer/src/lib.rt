@@ -1,4 +1,6 @@
 // What a call answers: a verdict with the calls made, or the error that refused the call.
+#![tactic(auto)]
+
 ghost use Rattle.std.specs.Prelude.{◌≡◌};
 ghost use Rattle.answer.specs.Numbers.{coded};
 

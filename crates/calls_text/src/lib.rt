@@ -1,4 +1,6 @@
 // What is printed of the calls that a memo table holds.
+#![tactic(auto)]
+
 ghost use Rattle.std.specs.Prelude.{◌≡◌, get_or};
 ghost use Rattle.grammar.specs.Codes.{uncalled_code};
 ghost use Rattle.text.specs.Writing.{Put};

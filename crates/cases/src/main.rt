@@ -1,5 +1,7 @@
 // Document 01's limit cases and those of requests P1, P7, P8, P10 and P14. Each grammar is a file; behind its name stands what the program sheet
 // prints of it, or, for each input, the first line of what the program judge prints.
+#![tactic(auto)]
+
 ghost use Rattle.io.specs.Counts.{IsPrefixLen};
 
 use file_words::{Loaded, load};

@@ -1,5 +1,7 @@
 // The chart of the tabular judge, for each nonterminal and end the set of the starts of the spans that it derives: what is put into it and
 // read off it. No function requires anything of its numbers.
+#![tactic(auto)]
+
 ghost use Rattle.std.specs.Prelude.{◌≡◌};
 ghost use Rattle.std.specs.Int.Bits.{bit_or};
 ghost use Rattle.base.specs.Choice.{choose};

@@ -1,4 +1,6 @@
 // What a check answers: whether the lent table has room, and what is found.
+#![tactic(auto)]
+
 ghost use Rattle.std.specs.Prelude.{◌≡◌, leb};
 ghost use Rattle.table_promises.specs.Layout.{table_room};
 ghost use Rattle.check_answers.specs.inner.Answers.{answer_of};

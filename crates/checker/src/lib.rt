@@ -1,4 +1,6 @@
 // Checking an encoded grammar, and filling the lent table with its sets and its entries: with one token of lookahead, and with two.
+#![tactic(auto)]
+
 ghost use Rattle.lookahead.specs.declared.Lookahead.TheVariants.{One, Two};
 ghost use Rattle.recognizer_promises.specs.Properties.{Checks};
 

@@ -1,4 +1,6 @@
 // What the claim of one rule does: to an entry, to what is claimed once and twice, and to what is told of a nonterminal that overruns.
+#![tactic(auto)]
+
 ghost use Rattle.std.specs.Prelude.{◌≡◌, ◌&&◌, ◌%◌};
 ghost use Rattle.base.specs.Choice.{choose};
 ghost use Rattle.grammar.specs.Limits.{max_nonterminals};

@@ -1,4 +1,6 @@
 // The line of an entry of the table: the rules that claim it.
+#![tactic(auto)]
+
 ghost use Rattle.std.specs.Prelude.{◌≡◌, ◌++◌, ◌≤◌, ◌<◌, min};
 ghost use Rattle.base.specs.Quantifiers.{one as one_of, count_below};
 ghost use Rattle.grammar.specs.Limits.{max_rules};

@@ -1,4 +1,6 @@
 // What each rule claims, and which nonterminals overrun, found once: conflicts and the table are read off it.
+#![tactic(auto)]
+
 ghost use Rattle.std.specs.Prelude.{◌≡◌};
 ghost use Rattle.families.specs.inner.Rules.{ByRules};
 ghost use Rattle.grammar.specs.Encoding.{grammar_of};

@@ -1,4 +1,6 @@
 // Whom the allowance turns away, and what an answer adds to the clients' records.
+#![tactic(auto)]
+
 ghost use Rattle.std.specs.Prelude.{◌≡◌};
 ghost use Rattle.client_records.specs.inner.Charges.{served_with};
 

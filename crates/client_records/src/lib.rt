@@ -1,4 +1,6 @@
 // The records of the clients of one judge, their totals, and the allowance by which a client is turned away.
+#![tactic(auto)]
+
 ghost use Rattle.std.specs.Prelude.{◌≡◌};
 ghost use Rattle.client_records.specs.Usages.{nobody, called_by, sum_below, clients, exhausted};
 

@@ -1,4 +1,6 @@
 // The records of all clients in a row: four counters for each client, one client after the other; and their totals.
+#![tactic(auto)]
+
 ghost use Rattle.std.specs.Prelude.{◌≡◌, ◌<◌};
 ghost use Rattle.client_records.specs.Usages.{clients};
 ghost use Rattle.embed_promises.specs.Exports.{TotalsExported};

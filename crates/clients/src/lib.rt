@@ -1,4 +1,6 @@
 // Judging for the clients of one judge.
+#![tactic(auto)]
+
 ghost use Rattle.event.specs.Events.{input_of};
 ghost use Rattle.clients_promises.specs.Properties.{JudgesFor};
 

@@ -1,5 +1,7 @@
 // The columns of a row of the table: with one token of lookahead the terminals in order, then the end; with two the elements of sets. And the
 // column for the lookahead string at a place of an input.
+#![tactic(auto)]
+
 ghost use Rattle.std.specs.Prelude.{◌≡◌};
 ghost use Rattle.event.specs.Events.{input_of};
 ghost use Rattle.columns.specs.Columns.{column_count};

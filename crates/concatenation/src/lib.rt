@@ -1,4 +1,6 @@
 // One lookahead set behind the other: what is looked at where a string of the first is followed by one of the second, and the set of all strings.
+#![tactic(auto)]
+
 ghost use Rattle.std.specs.Prelude.{◌≡◌, true, ◌&&◌, ◌%◌, ◌^◌, ◌<◌, ltb};
 ghost use Rattle.base.specs.Choice.{choose};
 ghost use Rattle.lookahead.specs.declared.Lookahead.TheVariants.{One, Two};

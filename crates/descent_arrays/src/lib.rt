@@ -1,4 +1,6 @@
 // The arrays that the descent reads, made before it starts: their sizes, and how the word of a token is made up.
+#![tactic(auto)]
+
 ghost use Rattle.std.specs.Prelude.{◌≡◌, min};
 ghost use Rattle.descent_arrays.specs.inner.Arrays.{arrays};
 

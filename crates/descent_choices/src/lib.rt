@@ -1,4 +1,6 @@
 // A choice of rules as the descent reads it: a row for each nonterminal, by the columns of the table.
+#![tactic(auto)]
+
 ghost use Rattle.std.specs.Prelude.{◌≡◌, ◌+◌, ◌<◌, get_or, set};
 ghost use Rattle.columns.specs.Columns.{column_count};
 ghost use Rattle.descent_arrays.specs.inner.Arrays.{choice_words};

@@ -1,4 +1,6 @@
 // What is found before a descent: of a grammar, then of lent memory and of the input, or of the length of all inputs.
+#![tactic(auto)]
+
 ghost use Rattle.std.specs.Prelude.{◌≡◌};
 ghost use Rattle.event.specs.Events.{input_of};
 ghost use Rattle.lookahead.specs.declared.Lookahead.TheVariants.{One};

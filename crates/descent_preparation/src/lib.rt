@@ -1,4 +1,6 @@
 // What a descent starts from: what is found, the arrays that it reads, and a memo table in which no call is recorded.
+#![tactic(auto)]
+
 ghost use Rattle.std.specs.Prelude.{◌≡◌, length};
 ghost use Rattle.descent_preparation.specs.inner.Preparation.{sizes_of, last_of, InputPrepared, SearchPrepared, TrialPrepared};
 

@@ -1,5 +1,7 @@
 // The steps of the descent that need no memo table: what a number in its arrays tells, the next symbol of a body, what an entry tells, how far a rule
 // has got.
+#![tactic(auto)]
+
 ghost use Rattle.std.specs.Prelude.{◌≡◌};
 ghost use Rattle.word.specs.Words.{decoded};
 ghost use Rattle.semantics.specs.inner.Memo.{decode as outcome_of};

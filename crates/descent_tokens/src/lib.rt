@@ -1,4 +1,6 @@
 // The tokens as the descent reads them: a word for each place.
+#![tactic(auto)]
+
 ghost use Rattle.std.specs.Prelude.{◌≡◌};
 ghost use Rattle.event.specs.Events.{input_of};
 ghost use Rattle.descent_tokens.specs.inner.Tokens.{token_word, tokens_of};

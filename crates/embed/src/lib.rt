@@ -1,4 +1,6 @@
 // The public calls for programs in C and Rust: the library's answers, packed into one number.
+#![tactic(auto)]
+
 ghost use Rattle.lookahead.specs.declared.Lookahead.TheVariants.{One};
 ghost use Rattle.event.specs.Events.{input_of};
 ghost use Rattle.embed_promises.specs.Exports.{CheckExported, JudgeExported, TabularExported};

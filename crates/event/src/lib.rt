@@ -1,4 +1,6 @@
 // An event of a log, and the terminal that it is.
+#![tactic(auto)]
+
 ghost use Rattle.std.specs.Prelude.{◌≡◌};
 ghost use Rattle.event.specs.Events.{terminal_of, input_of};
 ghost use Rattle.event.specs.Unknown.{unknown_from};

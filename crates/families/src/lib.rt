@@ -1,5 +1,7 @@
 // Families of sets, one for each nonterminal, and the least ones that the rules of a grammar close: definitions in specs/, theorems in
 // proofs/, and the types of what is computed of them. specs/contracts/Analysis.antt tells what is found of a grammar.
+#![tactic(auto)]
+
 use answer::Error;
 use grammar::limits::{NONTERMINALS, RULES};
 use grammar::reading::Sizes;

@@ -1,4 +1,6 @@
 // The words that a file's bytes are, low byte first.
+#![tactic(auto)]
+
 ghost use Rattle.std.specs.Prelude.{◌≡◌, ◌+◌, ◌<◌, length};
 ghost use Rattle.file_words.specs.Words.{word_of_bytes};
 ghost use Rattle.file_words.specs.inner.Words.{four_at, Loading};

@@ -1,4 +1,6 @@
 // First sets of an encoded grammar for a lookahead, by which left recursion and unproductive nonterminals are found too.
+#![tactic(auto)]
+
 ghost use Rattle.std.specs.Prelude.{◌≡◌};
 ghost use Rattle.grammar.specs.declared.reading.Reading.TheVariants.{Read};
 ghost use Rattle.admission.specs.Admission.{admission};

@@ -1,4 +1,6 @@
 // What is found of a grammar by its sets: the lowest nonterminal with a flaw refuses it.
+#![tactic(auto)]
+
 ghost use Rattle.std.specs.Prelude.{◌≡◌, ◌≤◌, ◌<◌};
 ghost use Rattle.base.specs.Quantifiers.{lowest};
 ghost use Rattle.grammar.specs.Limits.{max_nonterminals};

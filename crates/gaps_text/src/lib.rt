@@ -1,4 +1,6 @@
 // The gaps and overlaps of a grammar's table, line by line, and the nonterminals that overrun, from what each rule claims.
+#![tactic(auto)]
+
 ghost use Rattle.std.specs.Prelude.{◌≡◌, ◌≤◌};
 ghost use Rattle.grammar.specs.Limits.{max_nonterminals, max_terminals, max_rules};
 ghost use Rattle.text.specs.Writing.{Put, up_to};

@@ -1,4 +1,6 @@
 // What is found of lent memory, of a grammar and then of an input: the first error of these.
+#![tactic(auto)]
+
 ghost use Rattle.std.specs.Prelude.{◌≡◌};
 ghost use Rattle.answer.specs.declared.Error.TheVariants.{MemoTooShort, SpansTooShort};
 ghost use Rattle.event.specs.Events.{input_of};

@@ -1,4 +1,6 @@
 // All inputs of one length in letter order: how many there are, the one of a number, and a search through them.
+#![tactic(auto)]
+
 ghost use Rattle.std.specs.Prelude.{◌≡◌, ◌+◌, length};
 ghost use Rattle.inputs.specs.inner.Inputs.{input_at, input_count, no_trials, tried_next};
 

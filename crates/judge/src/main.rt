@@ -1,4 +1,6 @@
 // Judges the input on standard input by the grammar whose words are in the file card.bin.
+#![tactic(auto)]
+
 ghost use Rattle.io.specs.Counts.{IsPrefixLen};
 
 use libc::{STDIN_FILENO, STDOUT_FILENO};

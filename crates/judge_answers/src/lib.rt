@@ -1,4 +1,6 @@
 // What judging answers: why it is refused, or the verdict by the memo table that the descent leaves.
+#![tactic(auto)]
+
 ghost use Rattle.std.specs.Prelude.{◌≡◌, get_or};
 ghost use Rattle.grammar.specs.Codes.{uncalled_code};
 ghost use Rattle.judge_answers.specs.inner.Answers.{answer_of};

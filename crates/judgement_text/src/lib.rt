@@ -1,4 +1,6 @@
 // What is printed of a judgement: a refusal, or a verdict and the calls that the memo table holds.
+#![tactic(auto)]
+
 ghost use Rattle.std.specs.Prelude.{◌++◌};
 ghost use Rattle.text.specs.Ascii.{ascii};
 ghost use Rattle.text.specs.Decimal.{decimal, labelled};

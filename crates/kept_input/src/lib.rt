@@ -1,4 +1,6 @@
 // An input that is kept between calls and grows event by event, with marks to return to.
+#![tactic(auto)]
+
 ghost use Rattle.kept_steps.specs.Histories.{Add, Mark, Return};
 ghost use Rattle.kept_input.specs.inner.Whole.{ReadWhole};
 ghost use Rattle.kept_input.specs.Properties.{BeginsEmpty, Steps, Adds};

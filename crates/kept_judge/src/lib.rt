@@ -1,4 +1,6 @@
 // Judging an input that is kept between calls, with one token of lookahead and with two.
+#![tactic(auto)]
+
 ghost use Rattle.std.specs.Prelude.{◌≡◌};
 ghost use Rattle.lookahead.specs.declared.Lookahead.TheVariants.{One, Two};
 ghost use Rattle.kept_marks.specs.Stored.{length_read};

@@ -1,4 +1,6 @@
 // The length of an input that is kept between calls, and the marks to return to: what marking and returning need of it.
+#![tactic(auto)]
+
 ghost use Rattle.std.specs.Prelude.{◌≡◌, map, min};
 ghost use Rattle.grammar.specs.Limits.{max_tokens};
 ghost use Rattle.kept_steps.specs.Histories.{empty_input, Mark, Return};

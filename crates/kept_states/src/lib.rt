@@ -1,4 +1,6 @@
 // A kept log in memory of the caller's: its events, and a row of nine numbers that are its length and its eight marks.
+#![tactic(auto)]
+
 ghost use Rattle.std.specs.Prelude.{◌≡◌};
 ghost use Rattle.kept_steps.specs.Histories.{Mark, Return};
 ghost use Rattle.kept_input.specs.Held.{kept_input};

@@ -1,4 +1,6 @@
 // What each nonterminal left-reaches, by what is at the left of its rules: through one nonterminal after the other (Warshall).
+#![tactic(auto)]
+
 ghost use Rattle.std.specs.Prelude.{◌≡◌, ◌<◌, min, length};
 ghost use Rattle.grammar.specs.Limits.{max_nonterminals};
 ghost use Rattle.families.specs.inner.Reach.{extended, through, closure};

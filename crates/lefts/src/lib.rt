@@ -1,4 +1,6 @@
 // What is at the left of a body and of a rule, made longer by one word at a time from the end.
+#![tactic(auto)]
+
 ghost use Rattle.std.specs.Prelude.{◌≡◌};
 ghost use Rattle.families.specs.inner.Least.{at as family};
 ghost use Rattle.families.specs.inner.Left.{empty_in, own_left, lefts, inside_left};

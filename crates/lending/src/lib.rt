@@ -1,5 +1,7 @@
 // Lending the table back: the words of what is found of a grammar, two sets for each nonterminal and then a row of entries for each, are laid
 // out in the caller's memory.
+#![tactic(auto)]
+
 ghost use Rattle.std.specs.Prelude.{◌≡◌, ◌+◌, ◌*◌, ◌≤◌, ◌<◌, replicate};
 ghost use Rattle.grammar.specs.Codes.{no_entry};
 ghost use Rattle.grammar.specs.Limits.{max_nonterminals, max_table_words};

@@ -1,4 +1,6 @@
 // What is found of lent memory, of a grammar and then of a length, all inputs of which are to be judged by it: the first error of these.
+#![tactic(auto)]
+
 ghost use Rattle.std.specs.Prelude.{◌≡◌};
 ghost use Rattle.promises.specs.inner.Lengths.{with_search};
 

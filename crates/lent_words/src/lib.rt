@@ -1,4 +1,6 @@
 // What is lent of a finding: the sizes of the table, and an entry as a word.
+#![tactic(auto)]
+
 ghost use Rattle.std.specs.Prelude.{◌≡◌};
 ghost use Rattle.lent_words.specs.inner.Words.{entry_code, lent_sizes};
 

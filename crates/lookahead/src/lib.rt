@@ -1,4 +1,6 @@
 // How many tokens are looked at, and the strings of at most so many terminals as numbers: the elements of lookahead sets.
+#![tactic(auto)]
+
 ghost use Rattle.std.specs.Prelude.{◌≡◌};
 ghost use Rattle.lookahead.specs.inner.Lookaheads.{alphabet, single};
 ghost use Rattle.lookahead.specs.Lookaheads.{elements, nothing};

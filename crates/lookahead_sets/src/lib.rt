@@ -1,4 +1,6 @@
 // Lookahead sets: the strings of one or two tokens that may come next, shorter ones before the end of the input.
+#![tactic(auto)]
+
 ghost use Rattle.std.specs.Prelude.{◌≡◌};
 ghost use Rattle.lookahead.specs.Elements.{has, size};
 ghost use Rattle.lookahead.specs.inner.Operations.{is_empty, Empty, End, Terminal, Joined, SetsMet};

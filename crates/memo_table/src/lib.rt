@@ -1,4 +1,6 @@
 // The memo table as a whole: cleared before a descent, and the calls that it made read off it afterwards.
+#![tactic(auto)]
+
 ghost use Rattle.std.specs.Prelude.{◌≡◌, ◌+◌, ◌*◌, ◌≤◌, min, length, replicate};
 ghost use Rattle.base.specs.Quantifiers.{one};
 ghost use Rattle.grammar.specs.Codes.{uncalled_code};

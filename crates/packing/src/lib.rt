@@ -1,4 +1,6 @@
 // An answer as one number.
+#![tactic(auto)]
+
 ghost use Rattle.std.specs.Prelude.{◌≡◌, ◌%◌};
 ghost use Rattle.answer.specs.Numbers.{numbers};
 ghost use Rattle.embed_promises.specs.Packing.{joined, packed};

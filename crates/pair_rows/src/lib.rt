@@ -1,4 +1,6 @@
 // With two tokens of lookahead, what is looked at where terminals alone are followed by the strings of a set: a row of pairs for each.
+#![tactic(auto)]
+
 ghost use Rattle.std.specs.Prelude.{◌-◌, ◌&&◌};
 ghost use Rattle.lookahead.specs.declared.Lookahead.TheVariants.{Two};
 ghost use Rattle.lookahead.specs.inner.Operations.{terminal, Concatenated};

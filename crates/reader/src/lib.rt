@@ -1,4 +1,6 @@
 // Reading an encoded grammar: its first fault, or its sizes.
+#![tactic(auto)]
+
 ghost use Rattle.std.specs.Prelude.{◌≡◌, drop};
 ghost use Rattle.grammar.specs.Encoding.{declared_by};
 ghost use Rattle.grammar.specs.Reading.{stepped, finished, fresh, scan, is_within, reading};

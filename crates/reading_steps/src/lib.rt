@@ -1,4 +1,6 @@
 // What one word does to the reading of an encoded grammar: whether it is allowed there and in range, and what state comes next.
+#![tactic(auto)]
+
 ghost use Rattle.std.specs.Prelude.{◌≡◌};
 ghost use Rattle.grammar.specs.Reading.{row as row_of, allows as allows_after, symbol_in_range, in_range, begins_rule, state_after, counted as counted_of};
 

@@ -1,4 +1,6 @@
 // Judging with memory that the caller lends: an input with one token of lookahead, with two, and the costliest of all inputs of a length.
+#![tactic(auto)]
+
 ghost use Rattle.event.specs.Events.{input_of};
 ghost use Rattle.lookahead.specs.declared.Lookahead.TheVariants.{One, Two};
 ghost use Rattle.recognizer_promises.specs.Properties.{Judges};

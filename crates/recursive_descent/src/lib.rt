@@ -1,4 +1,6 @@
 // Memoized recursive descent in a lent memo table: on one input, and on all inputs of a length.
+#![tactic(auto)]
+
 ghost use Rattle.event.specs.Events.{input_of};
 ghost use Rattle.recognizer_promises.specs.inner.Judging.{DescendsWords};
 

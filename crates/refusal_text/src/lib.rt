@@ -1,4 +1,6 @@
 // What is printed of a refusal.
+#![tactic(auto)]
+
 ghost use Rattle.refusal_text.specs.Refusal.{refusal_text};
 ghost use Rattle.text.specs.Writing.{Put};
 

@@ -1,4 +1,6 @@
 // What the programs print: from the bytes of files to the bytes of the text.
+#![tactic(auto)]
+
 ghost use Rattle.event.specs.Events.{input_of};
 ghost use Rattle.gaps_text_promises.specs.inner.Gaps.{GapsPut};
 ghost use Rattle.text.specs.Writing.{Put};

@@ -1,4 +1,6 @@
 // How long the texts that the programs print can be, and how much of a file need be read.
+#![tactic(auto)]
+
 ghost use Rattle.std.specs.Prelude.{◌≡◌};
 ghost use Rattle.report_texts.specs.Texts.{enough_room};
 ghost use Rattle.report_texts.specs.Report.{Enough};

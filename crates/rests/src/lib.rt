@@ -1,4 +1,6 @@
 // The first set of what is left of a body and of a rule, made longer by one word at a time from the end.
+#![tactic(auto)]
+
 ghost use Rattle.std.specs.Prelude.{◌≡◌};
 ghost use Rattle.lookahead.specs.inner.Operations.{concat_numbers};
 ghost use Rattle.families.specs.inner.First.{symbol_first, no_rest, closed_meet, inside_word};

@@ -1,4 +1,6 @@
 // How the bodies of a rule, run one after the other, come to agree on an end: where a body ends, and agreements as entries of the memo table.
+#![tactic(auto)]
+
 ghost use Rattle.std.specs.Prelude.{◌≡◌};
 ghost use Rattle.semantics.specs.inner.Memo.{decode as outcome_of};
 ghost use Rattle.rule.specs.declared.Sign.TheVariants.{Positive, Negative};

@@ -1,5 +1,7 @@
 // The rules of a grammar by the rank of their nonterminals. Numbers beyond the limits stand in no grammar that is read: they are counted round, which
 // takes no test.
+#![tactic(auto)]
+
 ghost use Rattle.std.specs.Prelude.{◌≡◌};
 ghost use Rattle.tabular_promises.specs.inner.Scanning.{head_at};
 ghost use Rattle.tabular_promises.specs.inner.Filling.{rank_from, rank_by, lasts_to, befores_to};

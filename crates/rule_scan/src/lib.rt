@@ -1,4 +1,6 @@
 // A rule asked at one span, by a pass over its words from their end.
+#![tactic(auto)]
+
 ghost use Rattle.std.specs.Prelude.{◌≡◌, false, ◌≤◌, ◌<◌, length};
 ghost use Rattle.base.specs.Choice.{choose};
 ghost use Rattle.tabular_promises.specs.inner.Scanning.{none_open, before_terminal, before_symbol, scan_onto, keeps_by, asked_by};

@@ -1,4 +1,6 @@
 // Where the rules of an encoded grammar begin.
+#![tactic(auto)]
+
 ghost use Rattle.std.specs.Prelude.{◌≡◌};
 ghost use Rattle.grammar.specs.inner.Starts.{StartNoted, rule_starts};
 

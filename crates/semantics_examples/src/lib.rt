@@ -1,1 +1,2 @@
 // Worked grammars by computation, and tests for grammars that are written out: theorems in proofs/, no code.
+#![tactic(auto)]

@@ -1,4 +1,6 @@
 // First and follow sets of an encoded grammar for a lookahead.
+#![tactic(auto)]
+
 ghost use Rattle.std.specs.Prelude.{◌≡◌};
 ghost use Rattle.families.specs.inner.Analysis.{families_of};
 

@@ -1,4 +1,6 @@
 // Prints the sheet of the grammar whose words are read from standard input.
+#![tactic(auto)]
+
 use libc::{STDIN_FILENO, STDOUT_FILENO};
 use report_texts::{FILE_BYTES, SHEET_ROOM};
 

@@ -1,4 +1,6 @@
 // The parts of a sheet that need no sizes: its first line, the line of a nonterminal's sets, and an entry.
+#![tactic(auto)]
+
 ghost use Rattle.std.specs.Prelude.{◌≡◌, ◌++◌};
 ghost use Rattle.lookahead.specs.Elements.{size as size_of};
 ghost use Rattle.text.specs.Decimal.{decimal, labelled};

@@ -1,4 +1,6 @@
 // The sheet of a grammar, line by line, from the words of its table.
+#![tactic(auto)]
+
 ghost use Rattle.std.specs.Prelude.{◌≡◌, ◌+◌, ◌≤◌, ◌<◌};
 ghost use Rattle.grammar.specs.Limits.{max_nonterminals, max_terminals, max_table_words};
 ghost use Rattle.text.specs.Writing.{Put, up_to};

@@ -1,5 +1,7 @@
 // The words of the spans in lent memory, by start, then by end: the set of the nonterminals that the chart gives a span to. No function requires
 // anything of its numbers.
+#![tactic(auto)]
+
 ghost use Rattle.std.specs.Prelude.{◌≡◌};
 ghost use Rattle.tabular_promises.specs.inner.Chart.{one_nonterminal, with_nonterminal, span_word};
 ghost use Rattle.tabular_promises.specs.inner.Spans.{written_spans};

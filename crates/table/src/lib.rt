@@ -1,4 +1,6 @@
 // The LL(1) and the LL(2) table of an encoded grammar.
+#![tactic(auto)]
+
 ghost use Rattle.std.specs.Prelude.{◌≡◌};
 ghost use Rattle.table_promises.specs.Analysis.{conflict_error};
 ghost use Rattle.table.specs.inner.Analysis.{found_with, found_of};

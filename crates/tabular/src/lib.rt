@@ -1,5 +1,7 @@
 // A second recognizer, by tabulation: which nonterminals derive which span of the input, for every span from short to long. It needs neither table
 // nor memo table, only a grammar without left recursion, and takes shorter inputs.
+#![tactic(auto)]
+
 ghost use Rattle.event.specs.Events.{input_of};
 ghost use Rattle.tabular_promises.specs.inner.Judging.{TabulateGiven, Tabulated, FoundGiven};
 ghost use Rattle.tabular_promises.specs.Properties.{TabularJudges};

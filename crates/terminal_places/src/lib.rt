@@ -1,4 +1,6 @@
 // Where each terminal stands in an input.
+#![tactic(auto)]
+
 ghost use Rattle.std.specs.Prelude.{◌≡◌};
 ghost use Rattle.event.specs.Events.{input_of};
 ghost use Rattle.tabular_promises.specs.inner.Places.{stands_of};

@@ -1,4 +1,6 @@
 // Judging before a tree is written: lent memory is to be long enough for the tree, too.
+#![tactic(auto)]
+
 ghost use Rattle.event.specs.Events.{input_of};
 ghost use Rattle.tree_writer_promises.specs.inner.Room.{JudgesWithRoom};
 

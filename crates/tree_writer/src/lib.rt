@@ -1,4 +1,6 @@
 // Judging a log and, where it is accepted, writing its parse tree.
+#![tactic(auto)]
+
 ghost use Rattle.event.specs.Events.{input_of};
 ghost use Rattle.tree_writer_promises.specs.Properties.{Shows};
 

@@ -1,4 +1,6 @@
 // A record of how a judge has been used: four counters, each of which stops at the largest number of 32 bits.
+#![tactic(auto)]
+
 ghost use Rattle.std.specs.Prelude.{◌≡◌, ◌+◌};
 ghost use Rattle.usage.specs.Counters.{saturated, unused};
 ghost use Rattle.usage.specs.inner.Counters.{added};

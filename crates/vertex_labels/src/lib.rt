@@ -1,4 +1,6 @@
 // The words of all vertices, made before the tree is written; places past the input's end have none.
+#![tactic(auto)]
+
 ghost use Rattle.std.specs.Prelude.{◌≡◌, min};
 ghost use Rattle.event.specs.Events.{input_of};
 ghost use Rattle.grammar.specs.Reading.{reading};

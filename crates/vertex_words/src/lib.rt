@@ -1,4 +1,6 @@
 // The word of a call's vertex, made of what judging left in the lent memories; and its fields.
+#![tactic(auto)]
+
 ghost use Rattle.std.specs.Prelude.{◌≡◌, ◌%◌, ltb, get_or};
 ghost use Rattle.event.specs.Events.{input_of};
 ghost use Rattle.tree.specs.ParseTrees.{vertex};

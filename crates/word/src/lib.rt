@@ -1,4 +1,6 @@
 // What a 32-bit word of an encoded grammar stands for.
+#![tactic(auto)]
+
 ghost use Rattle.std.specs.Prelude.{◌≡◌};
 ghost use Rattle.word.specs.Words.{payload as payload_of, bare as bare_word, heading as heading_word, decoded};
 
