@@ -13,6 +13,7 @@ use Rattle.base.proofs.FiniteSets.{keep_elim, combine_elim}
 
 module _ {A : Type 0} where
   split_at : (x : A) (l : List A) → Memᴰ x l → (a : List A) × (b : List A) × (l ≡ a ++ (x ∷ b))
+  split_at x [] x'' = elim x'' [ ]
   split_at x (y ∷ l) (Memᴰ.head e) = ([], l, ap {B = List A} (λ z. z ∷ l) (sym e))
   split_at x (y ∷ l) (Memᴰ.tail m) = let r = split_at x l m in (y ∷ r.0, r.1, ap {B = List A} (λ s. y ∷ s) r.2)
 

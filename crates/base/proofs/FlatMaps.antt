@@ -15,5 +15,6 @@ module _ {X Y : Type 0} (f : X → List Y) where
 
   pub flat_map_make : (l : List X) (x : X) (y : Y) → Memᴰ x l → Memᴰ y (f x) → Memᴰ y (flat_map f l)
   unfolding flat_map
+  flat_map_make [] x y x4 m = elim x4 [ ]
   flat_map_make (z ∷ l) x y (Memᴰ.head e) m = Memᴰ.append_left (flat_map f l) (rw e at m)
   flat_map_make (z ∷ l) x y (Memᴰ.tail k) m = Memᴰ.append_right (f z) (flat_map_make l x y k m)
