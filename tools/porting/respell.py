@@ -156,7 +156,11 @@ def clauses(text):
 
 
 def inner(text):
-    return re.sub(r'\bspecs\.contracts\b', 'specs.inner', text)
+    """A path into a folder of ours; the modules that Rattle makes below specs/contracts keep theirs."""
+    def turn(m):
+        ours = os.path.exists(os.path.join(CRATES, m.group(1), 'specs', 'inner', m.group(2) + '.antt'))
+        return f'Rattle.{m.group(1)}.specs.inner.{m.group(2)}' if ours else m.group(0)
+    return re.sub(r'\bRattle\.(\w+)\.specs\.contracts\.(\w+)', turn, text)
 
 
 def main():

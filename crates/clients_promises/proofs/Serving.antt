@@ -16,7 +16,7 @@ use Rattle.answer.specs.declared.Error.TheVariants.{UnknownClient, QuotaReached}
 use Rattle.answer.specs.declared.Answer.{Answer}
 use Rattle.answer.specs.declared.Answer.TheVariants.{Refused, Passed}
 use Rattle.answer.specs.Faults.{first_fault}
-use Rattle.answer.specs.inner.Answer.{the_type}
+use Rattle.answer.specs.contracts.Answer.{the_type}
 use Rattle.answer.proofs.Apart.{answer_number_lem}
 use Rattle.base.specs.Choice.{choose}
 use Rattle.grammar.specs.Encoding.{grammar_of}

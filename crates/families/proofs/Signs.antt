@@ -8,7 +8,7 @@ use denote.Enum.Declared.{tag_of}
 use types.Run.{OneOf, miss}
 use lib.ListN.{length, get_or, take, drop, length-drop}
 use lib.Seq.{length-take-le, get_or-take, get_or-drop}
-use Rattle.word.specs.inner.Word.{the_type}
+use Rattle.word.specs.contracts.Word.{the_type}
 use Rattle.word.specs.declared.Word.{Word}
 use Rattle.word.specs.declared.Word.TheVariants.{Negative}
 use Rattle.word.specs.Words.{decoded}

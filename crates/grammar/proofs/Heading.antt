@@ -10,7 +10,7 @@ use types.Run.{OneOf}
 use borrow.Author.Tests.{lt-ltb, le-ltb}
 use lib.ListN.{length, get_or, drop}
 use Rattle.answer.specs.declared.Error.TheVariants.{Length, Heading as HeadingFault}
-use Rattle.word.specs.inner.Word.{the_type}
+use Rattle.word.specs.contracts.Word.{the_type}
 use Rattle.word.specs.declared.Word.{Word}
 use Rattle.word.specs.declared.Word.TheVariants.{Heading, Rule, Positive, Negative, Symbol, End, Invalid}
 use Rattle.word.specs.Words.{decoded}

@@ -10,7 +10,7 @@ use denote.Enum.Declared.{tag_of}
 use types.Run.{OneOf}
 use lib.ListN.{length, get_or, drop_of_length-le}
 use lib.Seq.{drop-cons}
-use Rattle.word.specs.inner.Word.{the_type}
+use Rattle.word.specs.contracts.Word.{the_type}
 use Rattle.word.specs.Words.{decoded}
 use Rattle.word.specs.declared.Symbol as grammar
 use Rattle.word.specs.declared.Word.{Word}

@@ -27,7 +27,7 @@ use Rattle.table.specs.inner.Conflicts.{in_set, in_sets, claimed_twice, Twice}
 use Rattle.columns.proofs.ColumnStrings.{column_string_lem, element_small}
 use Rattle.claims.proofs.Claimants.{several_claims, told as rules_told}
 use Rattle.table.proofs.OverrunColumns.{overrun_column}
-use Rattle.table_promises.specs.inner.Conflict.{the_type}
+use Rattle.table_promises.specs.contracts.Conflict.{the_type}
 
 -- one turn of the loop over a row's columns
 module _ (p : ℕ → Bool) (A : ℕ) {c m : ℕ} (h : c < m) where

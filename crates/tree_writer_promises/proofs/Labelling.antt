@@ -16,7 +16,7 @@ use Rattle.grammar.specs.Limits.{max_nonterminals, max_tokens, max_places, max_m
 use Rattle.grammar.specs.declared.reading.Sizes.{Sizes}
 use Rattle.grammar.specs.declared.reading.Reading.{Reading}
 use Rattle.grammar.specs.declared.reading.Reading.TheVariants.{Read, Faulty}
-use Rattle.grammar.specs.inner.reading.Reading.{the_type}
+use Rattle.grammar.specs.contracts.reading.Reading.{the_type}
 use Rattle.event.specs.Events.{input_of}
 use Rattle.event.proofs.Inputs.{input_length}
 use Rattle.lookahead.specs.declared.Lookahead.TheVariants.{One}

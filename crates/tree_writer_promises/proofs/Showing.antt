@@ -21,7 +21,7 @@ use Rattle.answer.specs.declared.Error.TheVariants.{TableTooShort, MemoTooShort,
 use Rattle.answer.specs.declared.Calls.{Calls}
 use Rattle.answer.specs.declared.Answer.{Answer}
 use Rattle.answer.specs.declared.Answer.TheVariants.{Refused, Passed, Rejected, Accepted}
-use Rattle.answer.specs.inner.Answer.{the_type}
+use Rattle.answer.specs.contracts.Answer.{the_type}
 use Rattle.answer.proofs.Apart.{answer_number_lem, refusal_number}
 use Rattle.answer.proofs.Faults.{Faultless, none_some, fault_none, each_none}
 use Rattle.base.specs.Choice.{choose}

@@ -5,8 +5,8 @@ use mathlib.Core.List.{List, [], ◌∷◌, ◌++◌, flat_map, Memᴰ}
 use mathlib.Core.Logic.{⊎_elim}
 use denote.Enum.Declared.{tag_of}
 use types.Run.{OneOf}
-use Rattle.word.specs.inner.Word.{the_type}
-use Rattle.word.specs.inner.Symbol.{the_type as symbol_type}
+use Rattle.word.specs.contracts.Word.{the_type}
+use Rattle.word.specs.contracts.Symbol.{the_type as symbol_type}
 use mathlib.Core.Option.{none, some}
 use Prim.Native.Nat.{ℕ, zero, suc, ◌+◌, ◌*◌, ◌/◌, ◌%◌, ◌≤◌, ◌<◌}
 use native.Mathlib.Omega.{arith}
