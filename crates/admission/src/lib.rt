@@ -17,7 +17,7 @@ use word::{Word, decode};
 const HEADING: u32 = 4;
 
 // Where a rule without positives begins its first negative, by index.
-#[derive(Drop)]
+#[derive(Clone, Copy)]
 pub(crate) enum Alone {
     Absent,
     At(usize),

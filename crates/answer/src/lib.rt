@@ -6,7 +6,7 @@ ghost use Rattle.answer.specs.Numbers.{coded};
 
 // Why a call is refused (documents 01 and 02: a refusal), with what is needed to tell where. Every refusal of the two documents has its case,
 // so that a call that comes to give one changes nothing here.
-#[derive(Drop)]
+#[derive(Clone, Copy)]
 pub enum Error {
     // the lent table or memo table is too short
     TableTooShort,
@@ -46,13 +46,13 @@ pub enum Error {
 }
 
 // How many calls a descent made, and the greatest place among them (document 01: count and far).
-#[derive(Drop)]
+#[derive(Clone, Copy)]
 pub struct Calls {
     pub count: usize,
     pub farthest: usize,
 }
 
-#[derive(Drop)]
+#[derive(Clone, Copy)]
 pub enum Answer {
     Refused(Error),
     Passed,

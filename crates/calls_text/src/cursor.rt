@@ -3,7 +3,7 @@ ghost use Rattle.std.specs.Prelude.{◌≡◌, ℕ, ◌+◌, ◌^◌, ◌<◌};
 ghost use Rattle.calls_text.specs.inner.Cursors.{Stands};
 
 // The nonterminal and the place are carried along, so that no index is divided by the length of a row.
-#[derive(Drop)]
+#[derive(Clone, Copy)]
 pub struct Cursor {
     pub index: usize,
     pub nonterminal: usize,

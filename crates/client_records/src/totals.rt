@@ -5,7 +5,7 @@ ghost use Rattle.client_records.specs.Sums.{Totalled};
 use super::CLIENTS;
 use usage::Usage;
 
-#[derive(Drop)]
+#[derive(Clone, Copy)]
 pub struct Totals {
     pub calls: u64,
     pub refusals: u64,

@@ -21,7 +21,7 @@ pub const END_MARK: u8 = 255;
 
 pub const COLUMN_WEIGHT: u32 = END_MARK as u32 + 1;
 
-#[derive(Drop)]
+#[derive(Clone, Copy)]
 pub struct Arrays {
     pub choice_columns: usize,
     pub row_column: usize,

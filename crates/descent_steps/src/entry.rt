@@ -6,7 +6,7 @@ ghost use Rattle.descent_steps.specs.inner.Steps.{meant};
 use grammar::codes::FAILED;
 
 // (document 01: a name's result, failed or an end)
-#[derive(Drop)]
+#[derive(Clone, Copy)]
 pub enum Outcome {
     Failed,
     End(u16),

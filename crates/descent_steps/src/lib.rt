@@ -22,7 +22,7 @@ const POSITIVE_WORD: u32 = 805306368;
 const NEGATIVE_WORD: u32 = 1073741824;
 
 // What a body does at a word: it takes a terminal, calls a nonterminal, or is over.
-#[derive(Drop)]
+#[derive(Clone, Copy)]
 pub enum Step {
     Terminal(u32),
     Nonterminal(u32),

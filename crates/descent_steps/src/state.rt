@@ -8,7 +8,7 @@ use grammar::codes::FAILED;
 
 // The index that a rule has reached, the word there, and the entry of what the bodies before it agree on. Once the rule has failed, the index is where
 // its last body stopped, and the word is the one that began that body.
-#[derive(Drop)]
+#[derive(Clone, Copy)]
 pub struct RuleState {
     pub at: usize,
     pub word: u32,

@@ -14,7 +14,7 @@ pub fn terminal_of(event: u8) -> u8
     event % DIRECTION
 }
 
-#[derive(Drop)]
+#[derive(Clone, Copy)]
 pub enum Unknown {
     Absent,
     At(usize),

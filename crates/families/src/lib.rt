@@ -15,21 +15,21 @@ pub const SETS: usize = NONTERMINALS as usize;
 
 // Of the words from an index on: the first set of what is left of the body, and the meet of those of the rule's positives
 // behind it.
-#[derive(Drop)]
+#[derive(Clone, Copy)]
 pub struct Rest {
     pub body: LookaheadSet,
     pub meet: LookaheadSet,
 }
 
 // Of the words from an index on: what is at the left of the rest of the body, and of the rule's bodies behind it.
-#[derive(Drop)]
+#[derive(Clone, Copy)]
 pub struct Left {
     pub body: Nonterminals,
     pub rule: Nonterminals,
 }
 
 // What refuses a grammar for one of its nonterminals.
-#[derive(Drop)]
+#[derive(Clone, Copy)]
 pub enum Flaw {
     // it left-reaches itself
     LeftRecursive,
@@ -38,13 +38,13 @@ pub enum Flaw {
 }
 
 // The lowest nonterminal that has it.
-#[derive(Drop)]
+#[derive(Clone, Copy)]
 pub enum Lowest {
     Absent,
     At(u8),
 }
 
-#[derive(Drop)]
+#[derive(Clone, Copy)]
 pub enum Finding {
     Passed(Sizes),
     Refused(Error),

@@ -8,7 +8,7 @@ ghost use Rattle.families.specs.inner.Nonterminals.{Alone};
 use grammar::limits::NONTERMINALS;
 
 // Nonterminal B weighs 2^B.
-#[derive(Drop)]
+#[derive(Clone, Copy)]
 pub struct Nonterminals {
     pub bits: u32,
 }

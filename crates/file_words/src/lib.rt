@@ -8,7 +8,7 @@ ghost use Rattle.file_words.specs.inner.Words.{four_at, Loading};
 use grammar::limits::WORDS;
 
 // Whether a file's bytes are words, and how many.
-#[derive(Drop)]
+#[derive(Clone, Copy)]
 pub enum Loaded {
     Words(usize),
     NotWords,

@@ -47,7 +47,7 @@ pub const TABULAR_PLACES: usize = TABULAR_TOKENS + 1;
 // A word for each of its spans: from each place to itself and to each behind it.
 pub const SPAN_WORDS: usize = TABULAR_PLACES * (TABULAR_PLACES + 1) / 2;
 
-#[derive(Drop)]
+#[derive(Clone, Copy)]
 pub struct Limits {
     pub words: usize,
     pub nonterminals: u32,

@@ -2,7 +2,7 @@
 use answer::Error;
 
 // What stands before the next word.
-#[derive(Drop)]
+#[derive(Clone, Copy)]
 pub enum State {
     // the heading
     Before,
@@ -14,7 +14,7 @@ pub enum State {
     Closed,
 }
 
-#[derive(Drop)]
+#[derive(Clone, Copy)]
 pub struct Sizes {
     pub nonterminals: u32,
     pub terminals: u32,
@@ -22,19 +22,19 @@ pub struct Sizes {
 }
 
 // How far a reading has come: the state, and the sizes with the rules begun so far.
-#[derive(Drop)]
+#[derive(Clone, Copy)]
 pub struct Progress {
     pub state: State,
     pub sizes: Sizes,
 }
 
-#[derive(Drop)]
+#[derive(Clone, Copy)]
 pub enum Step {
     Go(Progress),
     Stop(Error),
 }
 
-#[derive(Drop)]
+#[derive(Clone, Copy)]
 pub enum Reading {
     Read(Sizes),
     Faulty(Error),

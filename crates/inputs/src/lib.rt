@@ -38,7 +38,7 @@ pub fn write_input(input: &mut [u8], last: u8, number: usize)
 }
 
 // Inputs tried by their numbers: which is the next, and of those before it the costliest, with its calls.
-#[derive(Drop)]
+#[derive(Clone, Copy)]
 pub struct Trials {
     pub next: usize,
     pub best: usize,

@@ -8,7 +8,7 @@ ghost use Rattle.lookahead.specs.Lookaheads.{elements, nothing};
 use grammar::limits::TERMINALS_OF_TWO;
 
 // How many tokens are looked at.
-#[derive(Drop)]
+#[derive(Clone, Copy)]
 pub enum Lookahead {
     One,
     Two,

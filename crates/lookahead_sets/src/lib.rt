@@ -11,7 +11,7 @@ use lookahead::{Lookahead, alphabet, nothing, single};
 const WIDTH: u32 = 64;
 
 // A set of strings; element l weighs 2^l (document 01: event set).
-#[derive(Drop)]
+#[derive(Clone, Copy)]
 pub struct LookaheadSet {
     pub bits: u64,
 }

@@ -2,7 +2,7 @@
 #![tactic(auto)]
 
 // How a body ran, as the entry of its outcome, and the index where it stopped: where it is over, or behind the symbol that failed.
-#[derive(Drop)]
+#[derive(Clone, Copy)]
 pub struct Run {
     pub end: u16,
     pub at: usize,

@@ -15,7 +15,7 @@ pub const JUDGEMENT_ROOM: usize = judgement_text::ROOM;
 
 pub const GAPS_ROOM: usize = gaps_text::ROOM;
 
-#[derive(Drop)]
+#[derive(Clone, Copy)]
 pub struct Rooms {
     pub sheet: usize,
     pub judgement: usize,
@@ -38,7 +38,7 @@ pub const FILE_BYTES: usize = WORD_BYTES * WORDS + 1;
 
 pub const INPUT_BYTES: usize = TOKENS + 1;
 
-#[derive(Drop)]
+#[derive(Clone, Copy)]
 pub struct Reads {
     pub file: usize,
     pub input: usize,

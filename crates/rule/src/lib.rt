@@ -10,7 +10,7 @@ use grammar::codes::{FAILED, UNCALLED};
 use word::{Word, decode};
 
 // What a word begins: a positive conjunct, a negative one, or neither.
-#[derive(Drop)]
+#[derive(Clone, Copy)]
 pub enum Sign {
     Positive,
     Negative,

@@ -3,7 +3,7 @@
 #![tactic(auto)]
 
 // By nonterminal, then by column.
-#[derive(Drop)]
+#[derive(Clone, Copy)]
 pub enum Conflict {
     Absent,
     At { nonterminal: u8, column: u8 },

@@ -4,7 +4,7 @@
 
 // Of the words from an index on, at a span: the places from which what is left of the body leads to the span's end, and whether
 // the conjuncts of the rule that are behind it hold.
-#[derive(Drop)]
+#[derive(Clone, Copy)]
 pub struct Scan {
     pub set: u64,
     pub kept: bool,

@@ -5,7 +5,7 @@
 use answer::Answer;
 
 // An answer, and how many words of the tree are written.
-#[derive(Drop)]
+#[derive(Clone, Copy)]
 pub struct Shown {
     pub answer: Answer,
     pub written: usize,

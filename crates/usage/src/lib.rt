@@ -12,7 +12,7 @@ use answer::Answer;
 const COUNTER_LIMIT: u32 = 4294967295;
 
 // Calls to the judge, those refused, those accepted, and the calls that all their descents made (document 02: called pairs in all).
-#[derive(Drop)]
+#[derive(Clone, Copy)]
 pub struct Usage {
     pub calls: u32,
     pub refusals: u32,

@@ -5,14 +5,14 @@ ghost use Rattle.std.specs.Prelude.{◌≡◌};
 ghost use Rattle.word.specs.Words.{payload as payload_of, bare as bare_word, heading as heading_word, decoded};
 
 // A symbol of a body (document 01: a letter or a name, each with its number).
-#[derive(Drop)]
+#[derive(Clone, Copy)]
 pub enum Symbol {
     Terminal(u32),
     Nonterminal(u32),
 }
 
 // Invalid: of no kind, or with a payload that its kind does not have.
-#[derive(Drop)]
+#[derive(Clone, Copy)]
 pub enum Word {
     Heading { nonterminals: u32, terminals: u32 },
     Rule(u32),

@@ -25,6 +25,7 @@ use Rattle.semantics.proofs.descent.Range.{calls_equality, all_range, all_distin
 
 greatest_most : (l : List Call) (x : Call) → Memᴰ x l → x.place ≤ greatest_place l
 unfolding greatest_place
+greatest_most [] x x3 = elim x3 [ ]
 greatest_most (y ∷ l) x (mathlib.Core.List.Memᴰ.head e) = rw e (omega arith)
 greatest_most (y ∷ l) x (mathlib.Core.List.Memᴰ.tail m) = omega (arith, greatest_most l x m)
 

@@ -87,6 +87,7 @@ nth_mem (x ∷ l) zero r e = let s : r ≡ x = cc in Memᴰ.head s
 nth_mem (x ∷ l) (suc q) r e = Memᴰ.tail (nth_mem l q r e)
 
 pub mem_nth : (l : List Rule) (r : Rule) → Memᴰ r l → (q : ℕ) × (get_elem? l q ≡ some r)
+mem_nth [] r x' = elim x' [ ]
 mem_nth (x ∷ l) r (Memᴰ.head e) = (zero, (cc))
 mem_nth (x ∷ l) r (Memᴰ.tail m) = let s = mem_nth l r m in (suc s.0, s.1)
 
