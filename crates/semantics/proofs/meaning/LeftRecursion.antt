@@ -31,11 +31,15 @@ left_in_sound s B (Nonterminal C ∷ b) t = go (or_cases (eqb C B) (s C && left_
 
 left_in_complete : (s : NumberSet) (B : ℕ) (b : Body) → LeftIn s B b → T (left_in s B b)
 unfolding left_in
+left_in_complete s B [] x' = elim x' [ ]
+left_in_complete s B (Terminal _ ∷ b) x5 = elim x5 [ ]
 left_in_complete s B (Nonterminal C ∷ b) here = or_l (eqb C C) (s C && left_in s C b) (eqb_refl C)
 left_in_complete s B (Nonterminal C ∷ b) (there u l) =
     or_r (eqb C B) (s C && left_in s B b) (and_make (s C) (left_in s B b) u (left_in_complete s B b l))
 
 left_below : (n : ℕ) (s : NumberSet) (B : ℕ) (b : Body) → NonterminalsBelow n b → LeftIn s B b → B < n
+left_below n s B [] k x'' = elim x'' [ ]
+left_below n s B (Terminal _ ∷ b) k x7 = elim x7 [ ]
 left_below n s B (Nonterminal C ∷ b) k here = k.0
 left_below n s B (Nonterminal C ∷ b) k (there u l) = left_below n s B b k.1 l
 
