@@ -1,0 +1,24 @@
+-- The loop keeps what the search finds from the index on.
+use mathlib.Core.Path.{◌≡◌, refl, ◌∙◌}
+use Prim.Native.Nat.{◌-◌}
+use native.Mathlib.Omega.{arith}
+use lib.ListN.{length, drop}
+use Rattle.event.specs.Events.{input_of}
+use Rattle.event.specs.Unknown.{unknown_from}
+use Rattle.event.proofs.Known.{unknown_next, unknown_here, unknown_none}
+use borrow.Author.Rules.{rules}
+use Rattle.event.proofs.first_unknown.Goals as goal
+
+pub returns-then-terminals-terminal : goal.returns-then-terminals-terminal
+returns-then-terminals-terminal c =
+    unknown_here c.args.terminals c.args.events.now c.loop-at.at c.loop-at-test.true
+    (omega (arith, c.terminal_of-terminal.ensures)) ∙ c.loop-at.invariant
+
+pub loop-at-preserved : goal.loop-at-preserved
+loop-at-preserved c =
+    unknown_next c.args.terminals c.args.events.now c.loop-at.at c.loop-at-test.true
+    (omega (arith, c.terminal_of-terminal.ensures)) ∙ c.loop-at.invariant
+
+pub returns : goal.returns
+returns c =
+    unknown_none c.args.terminals c.args.events.now c.loop-at.at c.loop-at-test.false ∙ c.loop-at.invariant
