@@ -1,0 +1,12 @@
+-- Each turn writes the last digit of what is left of the number.
+use Prim.Native.Nat.{◌+◌, ◌%◌, ◌<◌}
+use native.Mathlib.Nat.{mod-lt}
+use native.Mathlib.Omega.{arith}
+use Rattle.inputs.proofs.Writing.{Writing, writing_start, writing_next, writing_done}
+use Rattle.inputs.proofs.write_input.Given as goal
+
+abbrev pub invariant-loop-at : goal.invariant-loop-at
+invariant-loop-at l = Writing (l.last + 1) l.number l.initial.input l.input l.rest l.at
+
+abbrev pub decreases-loop-at : goal.decreases-loop-at
+decreases-loop-at l = l.at
