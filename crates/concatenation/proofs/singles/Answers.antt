@@ -1,0 +1,12 @@
+-- Ones for the terminals, moved up to the elements of single terminals.
+use native.Mathlib.Omega.{arith}
+use lib.Pow.{pow_pos}
+use borrow.Author.Rules.{rules}
+use Rattle.concatenation.proofs.Cases as cases
+use Rattle.lookahead.proofs.Digits.{shifted}
+use Rattle.lookahead_sets.proofs.SingleElements.{single_small}
+use Rattle.concatenation.proofs.singles.Goals as goal
+
+pub returns : goal.returns
+returns c =
+    cases.singles_are c.args.lookahead (rw c.alphabet-most.ensures at c.fewer-few.ensures) c.single.ensures
