@@ -1,7 +1,6 @@
 -- The length and the heading first, then the terminals, then the words.
 use mathlib.Core.Path.{ap, sym, ◌∙◌}
 use native.Mathlib.Omega.{arith}
-use borrow.Author.Rules.{rules}
 use Rattle.admission.specs.Admission.{word_fault, faulty_or}
 use Rattle.admission.proofs.Admitted.{heading_first, many_terminals, words_then}
 use Rattle.admission.proofs.admit_two.Goals as goal

@@ -1,7 +1,6 @@
 -- The first word, where there is one, declares them.
 use mathlib.Core.Path.{ap, ◌∙◌}
 use native.Mathlib.Omega.{arith}
-use borrow.Author.Rules.{rules}
 use Rattle.grammar.specs.Encoding.{declared_by}
 use Rattle.admission.proofs.Admitted.{no_terminals, terminals_declared}
 use Rattle.admission.proofs.declared_terminals.Goals as goal

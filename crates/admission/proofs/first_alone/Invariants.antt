@@ -1,10 +1,8 @@
 -- The loop keeps what the search finds from the index on.
-use mathlib.Core.Path.{◌≡◌, refl, sym, ◌∙◌}
+use mathlib.Core.Path.{◌≡◌}
 use Prim.Native.Nat.{◌-◌}
-use native.Mathlib.Omega.{arith}
 use lib.ListN.{length, drop}
 use Rattle.admission.specs.Admission.{alone_from, first_alone}
-use Rattle.admission.proofs.WithoutPositives.{alone_here, alone_next, alone_none}
 use Rattle.admission.proofs.first_alone.Given as goal
 
 abbrev pub invariant-loop-at : goal.invariant-loop-at

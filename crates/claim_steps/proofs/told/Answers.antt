@@ -1,6 +1,5 @@
 -- By whether more than the end can follow, and then by whether the rule has positives.
 use mathlib.Core.Path.{◌∙◌}
-use borrow.Author.Rules.{rules}
 use Rattle.claim_steps.proofs.Overruns.{told_ends, told_more}
 use Rattle.claim_steps.proofs.told.Goals as goal
 

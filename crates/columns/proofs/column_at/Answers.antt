@@ -7,7 +7,6 @@ use Rattle.event.specs.Events.{input_of}
 use Rattle.event.proofs.Inputs.{input_length, input_at}
 use Rattle.columns.specs.inner.Columns.{column_before, column_last}
 use Rattle.columns.proofs.Columns.{column_inner, column_last_lem, column_end_lem}
-use borrow.Author.Rules.{rules}
 use Rattle.columns.proofs.column_at.Goals as goal
 
 pub returns-then-events-place : goal.returns-then-events-place

@@ -1,5 +1,4 @@
 -- By the lookahead.
-use borrow.Author.Rules.{rules}
 use Rattle.columns.specs.inner.Columns.{column_before}
 use Rattle.columns.proofs.column_before.Goals as goal
 

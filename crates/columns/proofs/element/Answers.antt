@@ -1,5 +1,4 @@
 -- By the lookahead, and then by whether the column is the last.
-use borrow.Author.Rules.{rules}
 use borrow.Author.Tests.{eq-eqb, ne_eqb}
 use Rattle.columns.specs.inner.Columns.{column_element}
 use Rattle.columns.proofs.element.Goals as goal

@@ -1,5 +1,4 @@
 -- No digit below those of pairs.
-use borrow.Author.Rules.{rules}
 use Rattle.concatenation.proofs.Cases as cases
 use Rattle.concatenation.proofs.all_pairs.Goals as goal
 

@@ -1,6 +1,5 @@
 -- An empty second set, or the set of the terminal, which is a long string.
 use mathlib.Core.Path.{sym, ◌∙◌}
-use borrow.Author.Rules.{rules}
 use Rattle.lookahead.specs.declared.Lookahead.TheVariants.{One}
 use Rattle.lookahead.specs.inner.Operations.{terminal}
 use Rattle.concatenation.proofs.Cases as cases

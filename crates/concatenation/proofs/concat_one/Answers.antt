@@ -2,7 +2,6 @@
 use mathlib.Core.Path.{refl, sym, ◌∙◌}
 use native.Mathlib.Nat.{mod-lt}
 use lib.Pow.{pow_pos}
-use borrow.Author.Rules.{rules}
 use Rattle.lookahead.specs.declared.Lookahead.TheVariants.{One}
 use Rattle.lookahead.specs.Elements.{has}
 use Rattle.concatenation.proofs.Cases as cases

@@ -1,8 +1,5 @@
 -- An empty second set, or a first set of long strings alone, or the parts: long strings, what comes behind nothing, and what comes behind a terminal alone.
 use mathlib.Core.Path.{refl, sym, ◌∙◌}
-use native.Mathlib.Nat.{mod-lt}
-use lib.Pow.{pow_pos}
-use borrow.Author.Rules.{rules}
 use Rattle.lookahead.specs.declared.Lookahead.TheVariants.{Two}
 use Rattle.concatenation.proofs.Parts as parts
 use Rattle.concatenation.proofs.concat_two.Goals as goal

@@ -1,5 +1,4 @@
 -- Nothing, the single terminals, and these followed by one another.
-use borrow.Author.Rules.{rules}
 use Rattle.concatenation.proofs.FullSet as full-set
 use Rattle.concatenation.proofs.full.Goals as goal
 

@@ -1,5 +1,4 @@
 -- With one token the digits below that of nothing, with two those of pairs.
-use borrow.Author.Rules.{rules}
 use Rattle.concatenation.proofs.Cases as cases
 use Rattle.concatenation.proofs.long.Goals as goal
 

@@ -1,10 +1,5 @@
 -- Ones for the terminals, moved up to the elements of single terminals.
-use native.Mathlib.Omega.{arith}
-use lib.Pow.{pow_pos}
-use borrow.Author.Rules.{rules}
 use Rattle.concatenation.proofs.Cases as cases
-use Rattle.lookahead.proofs.Digits.{shifted}
-use Rattle.lookahead_sets.proofs.SingleElements.{single_small}
 use Rattle.concatenation.proofs.singles.Goals as goal
 
 pub returns : goal.returns

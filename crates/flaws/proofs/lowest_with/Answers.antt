@@ -1,10 +1,7 @@
 -- The loop has passed nonterminals without the flaw.
 use mathlib.Core.Path.{sym, ◌∙◌}
-use Prim.Native.Nat.{◌-◌, ◌≤◌}
-use native.Mathlib.Omega.{arith}
-use Rattle.base.proofs.Quantified.{NoneBelow}
 use Rattle.families.specs.inner.Flaws.{flaw_in}
-use Rattle.families.proofs.LowestTold.{lowest_found, lowest_absent, none_more}
+use Rattle.families.proofs.LowestTold.{lowest_found, lowest_absent}
 use Rattle.flaws.proofs.lowest_with.Goals as goal
 
 pub returns-then-has_flaw : goal.returns-then-has_flaw

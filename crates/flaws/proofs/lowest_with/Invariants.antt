@@ -1,10 +1,7 @@
 -- The loop has passed nonterminals without the flaw.
-use mathlib.Core.Path.{sym, ◌∙◌}
 use Prim.Native.Nat.{◌-◌, ◌≤◌}
-use native.Mathlib.Omega.{arith}
 use Rattle.base.proofs.Quantified.{NoneBelow}
 use Rattle.families.specs.inner.Flaws.{flaw_in}
-use Rattle.families.proofs.LowestTold.{lowest_found, lowest_absent, none_more}
 use Rattle.flaws.proofs.lowest_with.Given as goal
 
 abbrev pub invariant-loop-nonterminal : goal.invariant-loop-nonterminal

@@ -1,10 +1,8 @@
 -- The loop keeps the closure through the nonterminals below `via`.
-use mathlib.Core.Path.{◌≡◌, refl, ap, ◌∙◌}
-use Prim.Native.Nat.{◌-◌, ◌≤◌, min}
+use mathlib.Core.Path.{refl, ap, ◌∙◌}
 use native.Mathlib.Omega.{arith}
 use borrow.Author.Rules.{rules}
 use lib.ListN.{length}
-use Rattle.grammar.specs.Limits.{max_nonterminals}
 use Rattle.families.specs.inner.Reach.{closure}
 use Rattle.families.proofs.Closure.{closure_next}
 use Rattle.families.proofs.Through.{through_long}

@@ -1,13 +1,9 @@
 -- The loop keeps the closure through the nonterminals below `via`.
-use mathlib.Core.Path.{◌≡◌, refl, ap, ◌∙◌}
+use mathlib.Core.Path.{◌≡◌}
 use Prim.Native.Nat.{◌-◌, ◌≤◌, min}
-use native.Mathlib.Omega.{arith}
-use borrow.Author.Rules.{rules}
 use lib.ListN.{length}
 use Rattle.grammar.specs.Limits.{max_nonterminals}
 use Rattle.families.specs.inner.Reach.{closure}
-use Rattle.families.proofs.Closure.{closure_next}
-use Rattle.families.proofs.Through.{through_long}
 use Rattle.left_reach.proofs.closed.Given as goal
 
 abbrev pub invariant-loop-via : goal.invariant-loop-via

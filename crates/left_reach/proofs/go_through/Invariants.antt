@@ -1,10 +1,9 @@
 -- The loop keeps what stands before `from`, with what is beyond, and what stands from there on, as it was.
-use mathlib.Core.Path.{◌≡◌, refl}
+use mathlib.Core.Path.{◌≡◌}
 use Prim.Native.Nat.{◌-◌}
-use native.Mathlib.Omega.{arith}
 use lib.ListN.{get_or}
 use Rattle.grammar.specs.Limits.{max_nonterminals}
-use Rattle.families.proofs.Through.{through_none, Walked, walked_none, walked_next, walked_all}
+use Rattle.families.proofs.Through.{Walked}
 use Rattle.left_reach.proofs.go_through.Given as goal
 
 abbrev pub invariant-loop-from : goal.invariant-loop-from

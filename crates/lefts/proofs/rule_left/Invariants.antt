@@ -1,12 +1,10 @@
 -- The loop keeps what is at the left, with the words from `at` on in front.
-use mathlib.Core.Path.{◌≡◌, ap}
+use mathlib.Core.Path.{◌≡◌}
 use Prim.Native.Nat.{◌≤◌}
-use native.Mathlib.Omega.{arith}
 use lib.ListN.{length, drop}
 use Rattle.families.specs.inner.Least.{at as family}
 use Rattle.families.specs.inner.Left.{empty_in, lefts, inside_left}
 use Rattle.families.specs.inner.Rules.{fold_from_end}
-use Rattle.families.proofs.Words.{end_none, end_one, end_all}
 use Rattle.lefts.proofs.rule_left.Given as goal
 
 abbrev pub invariant-loop-at : goal.invariant-loop-at

@@ -2,7 +2,7 @@
 use mathlib.Core.Path.{sym, ap, ◌∙◌}
 use native.Mathlib.Omega.{arith}
 use Rattle.lookahead.specs.Elements.{has}
-use Rattle.families.proofs.LeftPasses.{left_terminal, left_none, left_on, left_stop}
+use Rattle.families.proofs.LeftPasses.{left_on, left_stop}
 use Rattle.lefts.proofs.symbol_left.Goals as goal
 
 pub returns-then-contains : goal.returns-then-contains

@@ -1,5 +1,4 @@
 -- By whether there is a rule.
-use borrow.Author.Rules.{rules}
 use borrow.Author.Tests.{eq-eqb, ne_eqb}
 use Rattle.lent_words.specs.inner.Words.{entry_code}
 use Rattle.lent_words.proofs.entry_word.Goals as goal

@@ -1,5 +1,4 @@
 -- By what is found, and by the limits.
-use borrow.Author.Rules.{rules}
 use borrow.Author.Tests.{lt-ltb, le-ltb}
 use Rattle.lent_words.specs.inner.Words.{lent_sizes}
 use Rattle.lent_words.proofs.lent_sizes.Goals as goal

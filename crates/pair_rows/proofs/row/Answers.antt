@@ -1,5 +1,4 @@
 -- The first tokens are moved to the pairs of a terminal; the terminal alone is there where nothing may come behind it.
-use borrow.Author.Rules.{rules}
 use Rattle.pair_rows.proofs.Behind as behind
 use Rattle.pair_rows.proofs.OneRow as laws
 use Rattle.pair_rows.proofs.row.Goals as goal

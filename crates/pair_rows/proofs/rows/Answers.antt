@@ -1,6 +1,4 @@
 -- No terminal alone, no row; else all rows by one product.
-use native.Mathlib.Omega.{arith}
-use borrow.Author.Rules.{rules}
 use Rattle.pair_rows.proofs.AllRows as laws
 use Rattle.pair_rows.proofs.rows.Goals as goal
 

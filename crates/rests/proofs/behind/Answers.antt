@@ -1,6 +1,5 @@
 -- A terminal by itself, a nonterminal by its set.
 use Rattle.families.specs.inner.First.{symbol_first}
-use borrow.Author.Rules.{rules}
 use Rattle.rests.proofs.behind.Goals as goal
 
 pub returns-in-Terminal : goal.returns-in-Terminal

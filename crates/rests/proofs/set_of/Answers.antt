@@ -1,7 +1,6 @@
 -- The array has a set for what is left of the number.
 use mathlib.Core.Path.{refl}
 use Rattle.families.specs.inner.Least.{lookup}
-use borrow.Author.Rules.{rules}
 use Rattle.rests.proofs.set_of.Goals as goal
 
 pub returns : goal.returns

@@ -4,7 +4,6 @@ use Prim.Native.Nat.{ℕ, ◌/◌, ◌^◌}
 use native.Mathlib.Omega.{arith}
 use lib.Bits.{and_mask}
 use lib.Dec.{eqb}
-use borrow.Author.Rules.{rules}
 use Rattle.lookahead.specs.Elements.{has, width}
 use Rattle.lookahead.proofs.Elements as elements
 use Rattle.lookahead_sets.proofs.LookaheadSet.contains.Goals as goal

@@ -1,8 +1,6 @@
 -- One, shifted to a terminal's place, is the set of that terminal alone; a number that is no terminal's gives 0.
 use native.Mathlib.Omega.{arith}
-use borrow.Author.Rules.{rules}
-use Rattle.lookahead_sets.proofs.SingleElements.{single_small, singles_fit, terminal_none, terminal_some}
-use Rattle.lookahead.proofs.Bounds.{elements_fit}
+use Rattle.lookahead_sets.proofs.SingleElements.{terminal_none, terminal_some}
 use Rattle.lookahead_sets.proofs.LookaheadSet.terminal.Goals as goal
 
 pub returns-then-l-alphabet : goal.returns-then-l-alphabet

@@ -1,11 +1,9 @@
 -- The loop keeps that no negative begins before `at`.
-use mathlib.Core.Path.{◌≡◌, sym, ◌∙◌}
+use mathlib.Core.Path.{◌≡◌}
 use Prim.Native.Nat.{ℕ, ◌≤◌, ◌<◌, ◌-◌}
-use native.Mathlib.Omega.{arith}
 use lib.ListN.{length, get_or}
 use Rattle.word.specs.Words.{decoded}
 use Rattle.word.specs.declared.Word.TheVariants.{Negative}
-use Rattle.families.proofs.Signs.{none_till, not_negative}
 use Rattle.rule_passes.proofs.rules.negatives_in.Given as goal
 
 abbrev pub invariant-loop-at : goal.invariant-loop-at

@@ -1,7 +1,6 @@
 -- By whether the number is a nonterminal's.
 use native.Mathlib.Omega.{arith}
 use Rattle.families.proofs.NonterminalSets.{alone_some, alone_none}
-use borrow.Author.Rules.{rules}
 use Rattle.families.proofs.nonterminals.Nonterminals.alone.Goals as goal
 
 pub returns-then-number-lt-NONTERMINALS : goal.returns-then-number-lt-NONTERMINALS

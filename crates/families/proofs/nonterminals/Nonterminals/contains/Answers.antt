@@ -7,7 +7,6 @@ use lib.Dec.{eqb}
 use Rattle.grammar.specs.Limits.{max_nonterminals}
 use Rattle.lookahead.specs.Elements.{has}
 use Rattle.lookahead.proofs.Elements.{has_above}
-use borrow.Author.Rules.{rules}
 use Rattle.families.proofs.nonterminals.Nonterminals.contains.Goals as goal
 
 pub returns-then-number-lt-NONTERMINALS : goal.returns-then-number-lt-NONTERMINALS
