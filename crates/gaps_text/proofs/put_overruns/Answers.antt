@@ -1,0 +1,19 @@
+-- The loop keeps: the lines of the nonterminals passed are put.
+use mathlib.Core.Path.{refl}
+use native.Mathlib.Omega.{arith}
+use Rattle.text.specs.Writing.{up_to}
+use Rattle.text.proofs.Writing.{put_none, put_next, put_last}
+use Rattle.gaps_text_promises.specs.inner.Steps.{overruns_text}
+use Rattle.gaps_text.proofs.put_overruns.Goals as goal
+
+pub loop-nonterminal-init : goal.loop-nonterminal-init
+unfolding up_to
+loop-nonterminal-init c = (omega arith, put_none _ _)
+
+pub loop-nonterminal-preserved : goal.loop-nonterminal-preserved
+loop-nonterminal-preserved c =
+    (omega arith, put_next _ _ refl c.loop-nonterminal.invariant.1 c.put_overrun-next.ensures)
+
+pub returns : goal.returns
+unfolding overruns_text
+returns c = put_last _ c.loop-nonterminal.invariant.0 c.loop-nonterminal-test.false c.loop-nonterminal.invariant.1
