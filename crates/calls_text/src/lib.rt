@@ -29,6 +29,7 @@ fn put_end(out: &mut [u8], at: usize, entry: u16) -> usize
     put_or_dash(out, at, entry as usize, FAILED as usize)
 }
 
+#[tactic(auto, unfolding(crate::specs::Calls::call_text))]
 fn put_call(out: &mut [u8], at: usize, nonterminal: usize, place: usize, entry: u16) -> usize
     ensures { Put out.old at (call_text nonterminal place entry) out.new result }
 {

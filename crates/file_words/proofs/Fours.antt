@@ -6,7 +6,7 @@ use native.Mathlib.Omega.{arith}
 use native.Mathlib.Numerals.{add-one}
 use lib.ListN.{length, get_or, take, set}
 use lib.Seq.{sets, take-suc, take_all, length-take-le}
-use borrow.Author.Tests.{lt-leb, le-leb, eq-eqb, ne_eqb}
+use borrow.Author.Tests.{lt-leb, le-leb, eq-eqb}
 use Rattle.grammar.specs.Limits.{max_words}
 use Rattle.file_words.specs.declared.Loaded.TheVariants.{Words, NotWords}
 use Rattle.file_words.specs.Words.{bytes_of_word, words_of, are_words}
@@ -49,13 +49,6 @@ unfolding are_words
 too_long bytes before h = let t = lt-leb (length bytes) (bytes_of_word * max_words) h in record { told = rw t; words = rw t }
 
 module _ (bytes before : List ℕ) (h : length bytes ≤ bytes_of_word * max_words) where
-  pub cut_short : (length bytes % bytes_of_word ≡ 0 → ⊥) → Loading bytes before NotWords before
-  unfolding are_words
-  cut_short e =
-      let t = le-leb (length bytes) (bytes_of_word * max_words) h in
-      let u = ne_eqb (length bytes % bytes_of_word) 0 e in
-      record { told = rw (t, u); words = rw (t, u) }
-
   pub all_loaded : length bytes % bytes_of_word ≡ 0 → (i : ℕ) {words : List ℕ} → i ≤ length bytes / bytes_of_word → length bytes / bytes_of_word ≤ i →
       words ≡ sets before 0 (take i (words_of bytes)) → Loading bytes before (Words i) words
   unfolding are_words

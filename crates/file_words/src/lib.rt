@@ -30,6 +30,7 @@ fn word_at(bytes: &[u8], at: usize) -> u32
 }
 
 // Puts a file's words into the lent memory, if its bytes are words; else changes nothing.
+#[tactic(auto, unfolding(crate::specs::Words::are_words))]
 pub fn load(bytes: &[u8], words: &mut [u32; WORDS]) -> Loaded
     ensures { Loading bytes.now words.old result words.new }
 {
