@@ -1,12 +1,12 @@
 -- What checking answers and leaves in a table that is long enough, by what is found of the grammar.
 use mathlib.Core.Path.{◌≡◌, refl, sym, ap, ◌∙◌}
 use mathlib.Core.List.{List}
-use mathlib.Core.Bool.{Bool, true, false, not}
+use mathlib.Core.Bool.{Bool, true, false}
 use Prim.Native.Nat.{ℕ, ◌≤◌, ◌<◌}
 use native.Mathlib.Omega.{arith}
 use lib.Dec.{leb}
 use lib.ListN.{length}
-use borrow.Author.Tests.{leb-true, leb-false, not-true, not-false}
+use borrow.Author.Tests.{leb-true, leb-false}
 use Rattle.answer.specs.declared.Answer.{Answer}
 use Rattle.lookahead.specs.declared.Lookahead.{Lookahead}
 use Rattle.families.specs.declared.Finding.{Finding}
@@ -23,11 +23,11 @@ use Rattle.recognizer_promises.proofs.Checking.{told, found_fault, check_passed,
 
 -- the table's room, by the test
 module _ (k : Lookahead) {n : ℕ} {b : Bool} (e : b ≡ leb (table_room k) n) where
-  pub room_lacks : not b ≡ true → n < table_room k
-  room_lacks h = omega (arith, leb-false (table_room k) n (sym e ∙ not-true b h))
+  pub room_lacks : b ≡ false → n < table_room k
+  room_lacks h = omega (arith, leb-false (table_room k) n (sym e ∙ h))
 
-  pub room_there : not b ≡ false → table_room k ≤ n
-  room_there h = leb-true (table_room k) n (sym e ∙ not-false b h)
+  pub room_there : b ≡ true → table_room k ≤ n
+  room_there h = leb-true (table_room k) n (sym e ∙ h)
 
 pub checks_found : (k : Lookahead) (words before : List ℕ) → table_room k ≤ length before → {r : Found} → r ≡ found_of k words → {after : List ℕ}
     → after ≡ lent_of k r before → {a : Answer} → a ≡ answer_of r.finding → Checks k words before a after
