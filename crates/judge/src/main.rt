@@ -1,30 +1,51 @@
 // Judges the input on standard input by the grammar whose words are in the file card.bin.
 #![tactic(auto)]
 
-ghost use Rattle.io.specs.Counts.{IsPrefixLen};
+ghost use Rattle.std.specs.Prelude.{◌<◌, ◌≤◌, ℕ, length, take, IfOk, OnErr};
+ghost use Rattle.std.specs.Io.{ReadsAtMost};
+ghost use Rattle.std.specs.Io.KnownBytes.{Consumes, IsAtEnd};
 
-use libc::{STDIN_FILENO, STDOUT_FILENO};
 use report_texts::{FILE_BYTES, INPUT_BYTES, JUDGEMENT_ROOM};
+use std::io::Read;
+use std::rt::Files;
+use std::{fs, io};
 
-// The start of the file; one that cannot be opened is read as no words.
-fn read_card(card: &mut [u8; FILE_BYTES]) -> usize
-    ensures { IsPrefixLen result card.new }
+// Reads until `buf` is full or the input ends, and tells how many bytes it has put at its start. Where a read fails, those read before it stand there.
+fn read_full<R: Read>(reader: &mut R, buf: &mut [u8]) -> io::Result<usize>
+    ensures count { ReadsAtMost result buf.new }
+    ensures bytes { IfOk result (λ n.
+        Consumes (R.remaining reader.old) (R.remaining reader.new) (take n buf.new)) }
+    ensures end { IfOk result (λ n. n < length buf.new → IsAtEnd (R.remaining reader.new)) }
+    ensures err { OnErr result ((n : ℕ) × (n ≤ length buf.new)
+        × Consumes (R.remaining reader.old) (R.remaining reader.new) (take n buf.new)) }
 {
-    let fd = os::open_read(b"card.bin");
-    if fd < 0 {
-        return 0;
+    let mut done = 0;
+    while done < buf.len() {
+        let n = reader.read(&mut buf[done..])?;
+        if n == 0 {
+            break;
+        }
+        done += n;
     }
-    let n = io::read_full(fd, card);
-    libc::close(fd);
-    n
+    Ok(done)
 }
 
-fn main() {
+// The start of the file; one that cannot be opened is read as no words. After a read that fails nothing is known of `card`.
+fn read_card(files: &impl Files, card: &mut [u8; FILE_BYTES]) -> io::Result<usize>
+    ensures { ReadsAtMost result card.new }
+{
+    let Ok(mut file) = fs::open(files, "card.bin") else {
+        return Ok(0);
+    };
+    read_full(&mut file, card)
+}
+
+fn main(rt: HostRuntime) -> io::Result<()> {
     let mut card = [0u8; FILE_BYTES];
-    let n = read_card(&mut card);
+    let n = read_card(&rt, &mut card)?;
     let mut log = [0u8; INPUT_BYTES];
-    let m = io::read_full(STDIN_FILENO, &mut log);
+    let m = read_full(&mut rt.stdin(), &mut log)?;
     let mut text = [0u8; JUDGEMENT_ROOM];
     let length = report::judgement(&card[..n], &log[..m], &mut text);
-    io::write_all(STDOUT_FILENO, &text[..length]);
+    rt.write_all(&text[..length])
 }
