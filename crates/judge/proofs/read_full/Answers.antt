@@ -18,10 +18,10 @@ read_behind f k n xs ys within fits =
 pub loop-done-preserved : goal.loop-done-preserved
 loop-done-preserved g c =
     let before = c.loop-done.invariant in
-    let read = c.in_ok-n.ensures in
+    let read = c.in-Ok.ensures in
     let joined = Consumes-trans _ _ _ _ _ before.consumed read.bytes.0 in
     record {
       same_length = search rules;
       within = search rules;
-      consumed = subst (Consumes _ _) (read_behind c.loop-done.done _ c.in_ok-n.n c.loop-done.buf c.read.new.buf before.within read.bound.0) joined;
+      consumed = subst (Consumes _ _) (read_behind c.loop-done.done _ c.in-Ok.n c.loop-done.buf c.read.new.buf before.within read.bound.0) joined;
     }
