@@ -1,5 +1,5 @@
 -- The rules are gone over from the last on: each without positives has the first terminal told of its head if that overruns.
-use mathlib.Core.Path.{◌≡◌, refl, sym, ap, ◌∙◌}
+use mathlib.Core.Path.{subst, ◌≡◌, refl, sym, ap, ◌∙◌}
 use mathlib.Core.Bool.{Bool, true, false, ◌&&◌, ◌||◌}
 use mathlib.Core.List.{List, [], ◌∷◌}
 use mathlib.Core.Option.{some}
@@ -66,8 +66,9 @@ overrun_rule {k} r {rules} {follows} {before} {after} o own e = record {
         → get_or (set before r.head (choose (without r.positives && beyond_end k (get_or follows r.head 0)) (terminal k 0) (get_or before r.head 0))) A 0
         ≡ overrun_set k (alone_in A (r ∷ rules) && beyond_end k (get_or follows A 0))
     go A (yes d) =
-        rw (d, get_or-set_same before head now 0 (omega (arith, o.long)), eq-eqb r.head r.head refl, o.each r.head)
-        (one_more k (without r.positives) (more head) (alone_in head rules))
+        let P : ℕ → Type 0 = λ A. get_or (set before r.head now) A 0 ≡ overrun_set k (alone_in A (r ∷ rules) && beyond_end k (get_or follows A 0)) in
+        subst P (sym d) (rw (get_or-set_same before head now 0 (omega (arith, o.long)), eq-eqb r.head r.head refl, o.each r.head)
+        (one_more k (without r.positives) (more head) (alone_in head rules)))
     go A (no d) = rw (get_or-set_other before head A now 0 d, ne_eqb r.head A (λ x. d (sym x))) (o.each A)
 
 -- the list from a member on

@@ -67,6 +67,8 @@ module _ (s : NumberSet) where
 
   body_make : (b : Body) (B : ℕ) → LeftIn s B b → T (has (body_left s b) B)
   unfolding body_left symbol_left
+  body_make [] B x' = elim x' [ ]
+  body_make (Terminal _ ∷ b) B x5 = elim x5 [ ]
   body_make (Nonterminal A ∷ b) B here = go (s A)
     where
       own : T (has (weight A) A)
@@ -95,6 +97,8 @@ module _ (s : NumberSet) where
 
 -- nullable nonterminals are at the left of the same bodies
 left_same : (s s' : NumberSet) → ((A : ℕ) → T (s A) → T (s' A)) → (B : ℕ) (b : Body) → LeftIn s B b → LeftIn s' B b
+left_same s s' f B [] x' = elim x' [ ]
+left_same s s' f B (Terminal _ ∷ b) x5 = elim x5 [ ]
 left_same s s' f B (Nonterminal C ∷ b) here = here
 left_same s s' f B (Nonterminal C ∷ b) (there u l) = there (f C u) (left_same s s' f B b l)
 

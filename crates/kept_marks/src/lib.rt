@@ -20,7 +20,7 @@ const UNSET: u16 = 65535;
 
 // How long a kept input is, and the length that each mark notes. Any value may be handed in: a length over the limit reads as the limit,
 // a mark beyond the length as not set.
-#[derive(Drop)]
+#[derive(Clone, Copy)]
 pub struct Progress {
     pub length: u16,
     pub marks: [u16; MARKS],

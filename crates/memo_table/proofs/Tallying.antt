@@ -28,6 +28,7 @@ use Rattle.memo_table.proofs.Entries.{get_d_any}
 
 greatest_most : (l : List Call) (x : Call) → Memᴰ x l → x.place ≤ greatest_place l
 unfolding greatest_place
+greatest_most [] x x3 = elim x3 [ ]
 greatest_most (y ∷ l) x (Memᴰ.head e) = rw e (omega arith)
 greatest_most (y ∷ l) x (Memᴰ.tail m) = omega (arith, greatest_most l x m)
 

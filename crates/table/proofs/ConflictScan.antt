@@ -5,8 +5,6 @@ use mathlib.Core.List.{List, [], ◌∷◌}
 use Prim.Native.Nat.{ℕ, zero, suc, ◌+◌, ◌-◌, ◌≤◌, ◌<◌}
 use native.Mathlib.Numerals.{add-one}
 use native.Mathlib.Omega.{arith}
-use denote.Enum.Declared.{tag_of}
-use types.Run.{OneOf, miss}
 use lib.ListN.{length, get_or}
 use Rattle.grammar.specs.Syntax.{Grammar}
 use Rattle.lookahead.specs.declared.Lookahead.{Lookahead}
@@ -27,7 +25,6 @@ use Rattle.table.specs.inner.Conflicts.{in_set, in_sets, claimed_twice, Twice}
 use Rattle.columns.proofs.ColumnStrings.{column_string_lem, element_small}
 use Rattle.claims.proofs.Claimants.{several_claims, told as rules_told}
 use Rattle.table.proofs.OverrunColumns.{overrun_column}
-use Rattle.table_promises.specs.contracts.Conflict.{the_type}
 
 -- one turn of the loop over a row's columns
 module _ (p : ℕ → Bool) (A : ℕ) {c m : ℕ} (h : c < m) where
@@ -60,12 +57,12 @@ module _ (p : ℕ → ℕ → Bool) (columns : ℕ) {A n : ℕ} (h : A < n) {r :
   row_less : n - A ≡ suc (n - (A + 1))
   row_less = omega arith
 
-  pub row_here : OneOf (1 ∷ []) (tag_of the_type r) → conflict_from p columns A (n - A) ≡ r
+  pub row_here : (r ≡ Absent → ⊥) → conflict_from p columns A (n - A) ≡ r
   unfolding conflict_from
   row_here t = rw (row_less, ← row) (go r t)
     where
-      go : (r : Conflict) → OneOf (1 ∷ []) (tag_of the_type r) → or_later r (conflict_from p columns (suc A) (n - (A + 1))) ≡ r
-      go Absent t = absurd (miss (1 ∷ []) 0 tt t)
+      go : (r : Conflict) → (r ≡ Absent → ⊥) → or_later r (conflict_from p columns (suc A) (n - (A + 1))) ≡ r
+      go Absent t = absurd (t refl)
       go (At B c) t = refl
 
   pub row_later : r ≡ Absent → conflict_from p columns A (n - A) ≡ conflict_from p columns (A + 1) (n - (A + 1))

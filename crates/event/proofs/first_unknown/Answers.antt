@@ -1,12 +1,7 @@
 -- The loop keeps what the search finds from the index on.
-use mathlib.Core.Path.{◌≡◌, refl, ◌∙◌}
-use Prim.Native.Nat.{◌-◌}
+use mathlib.Core.Path.{◌∙◌}
 use native.Mathlib.Omega.{arith}
-use lib.ListN.{length, drop}
-use Rattle.event.specs.Events.{input_of}
-use Rattle.event.specs.Unknown.{unknown_from}
 use Rattle.event.proofs.Known.{unknown_next, unknown_here, unknown_none}
-use borrow.Author.Rules.{rules}
 use Rattle.event.proofs.first_unknown.Goals as goal
 
 pub returns-then-terminals-terminal : goal.returns-then-terminals-terminal

@@ -1,12 +1,9 @@
 -- The loop keeps what the search finds from the index on.
-use mathlib.Core.Path.{◌≡◌, refl, ◌∙◌}
+use mathlib.Core.Path.{◌≡◌}
 use Prim.Native.Nat.{◌-◌}
-use native.Mathlib.Omega.{arith}
 use lib.ListN.{length, drop}
 use Rattle.event.specs.Events.{input_of}
 use Rattle.event.specs.Unknown.{unknown_from}
-use Rattle.event.proofs.Known.{unknown_next, unknown_here, unknown_none}
-use borrow.Author.Rules.{rules}
 use Rattle.event.proofs.first_unknown.Given as goal
 
 abbrev pub invariant-loop-at : goal.invariant-loop-at

@@ -1,7 +1,5 @@
 -- The product of the turns so far is a power, and is not over the limit.
-use Prim.Native.Nat.{◌-◌}
-use native.Mathlib.Omega.{arith}
-use Rattle.inputs.proofs.Counting.{Counting, counting_start, product_fits, counting_next, counted_more, counted_all}
+use Rattle.inputs.proofs.Counting.{counted_more, counted_all}
 use Rattle.inputs.proofs.count_inputs.Goals as goal
 
 pub returns-then-inputs-gt-INPUTS : goal.returns-then-inputs-gt-INPUTS

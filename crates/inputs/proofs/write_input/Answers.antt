@@ -1,8 +1,5 @@
 -- Each turn writes the last digit of what is left of the number.
-use Prim.Native.Nat.{◌+◌, ◌%◌, ◌<◌}
-use native.Mathlib.Nat.{mod-lt}
-use native.Mathlib.Omega.{arith}
-use Rattle.inputs.proofs.Writing.{Writing, writing_start, writing_next, writing_done}
+use Rattle.inputs.proofs.Writing.{writing_next, writing_done}
 use Rattle.inputs.proofs.write_input.Goals as goal
 
 pub loop-at-preserved : goal.loop-at-preserved

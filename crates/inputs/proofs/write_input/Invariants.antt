@@ -1,8 +1,6 @@
 -- Each turn writes the last digit of what is left of the number.
-use Prim.Native.Nat.{◌+◌, ◌%◌, ◌<◌}
-use native.Mathlib.Nat.{mod-lt}
-use native.Mathlib.Omega.{arith}
-use Rattle.inputs.proofs.Writing.{Writing, writing_start, writing_next, writing_done}
+use Prim.Native.Nat.{◌+◌}
+use Rattle.inputs.proofs.Writing.{Writing}
 use Rattle.inputs.proofs.write_input.Given as goal
 
 abbrev pub invariant-loop-at : goal.invariant-loop-at

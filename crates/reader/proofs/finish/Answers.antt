@@ -1,7 +1,6 @@
 -- Behind the last word the end must have been.
 use mathlib.Core.Path.{sym, ◌∙◌}
 use Rattle.grammar.specs.Reading.{finished}
-use borrow.Author.Rules.{rules}
 use Rattle.reader.proofs.finish.Goals as goal
 
 pub returns-then-row : goal.returns-then-row

@@ -1,8 +1,6 @@
 -- The tests before the first rule, in their order, and then the rules.
 use mathlib.Core.Path.{sym, ◌∙◌}
-use borrow.Author.Tests.{not-true, not-false}
 use Rattle.grammar.proofs.Heading.{reading_long, reading_empty, nonterminals_out, terminals_out, reading_rules}
-use borrow.Author.Rules.{rules}
 use Rattle.reader.proofs.read.Goals as goal
 
 pub returns-then-words-gt-WORDS : goal.returns-then-words-gt-WORDS

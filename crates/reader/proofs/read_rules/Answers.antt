@@ -1,10 +1,5 @@
 -- The loop keeps what the row says from the index on equal to what it said at the start.
-use mathlib.Core.Path.{◌≡◌, refl, sym, ◌∙◌}
-use Prim.Native.Nat.{◌-◌}
-use native.Mathlib.Omega.{arith}
-use lib.ListN.{length, drop}
-use borrow.Author.Rules.{rules}
-use Rattle.grammar.specs.Reading.{scan}
+use mathlib.Core.Path.{sym, ◌∙◌}
 use Rattle.grammar.proofs.Scanning.{scan_go, scan_stop, scan_over}
 use Rattle.reader.proofs.read_rules.Goals as goal
 

@@ -1,9 +1,7 @@
 -- One word of a reading: the tests in their order.
 use Rattle.grammar.proofs.Scanning.{stepped_rule, stepped_other}
-use borrow.Author.Tests.{not-true, not-false}
 use mathlib.Core.Path.{sym, ◌∙◌}
 use Rattle.grammar.specs.Reading.{stepped}
-use borrow.Author.Rules.{rules}
 use Rattle.reader.proofs.read_word.Goals as goal
 
 pub returns-then-not-allows : goal.returns-then-not-allows

@@ -1,7 +1,6 @@
 -- One rule more, by the test for room.
 use borrow.Author.Tests.{le-leb, lt-leb}
 use Rattle.grammar.specs.Reading.{counted}
-use borrow.Author.Rules.{rules}
 use Rattle.reading_steps.proofs.counted.Goals as goal
 
 pub returns-then-rules-ge-RULES : goal.returns-then-rules-ge-RULES

@@ -1,8 +1,5 @@
 -- The loop keeps `Noting`: the numbers before `rules` hold the begins found so far.
-use Prim.Native.Nat.{◌-◌}
-use native.Mathlib.Omega.{arith}
-use lib.ListN.{length}
-use Rattle.grammar.proofs.Starts.{Noting, noting_start, noting_turn, noting_end}
+use Rattle.grammar.proofs.Starts.{noting_start, noting_turn, noting_end}
 use Rattle.rule_starts.proofs.rule_starts.Goals as goal
 
 pub loop-at-init : goal.loop-at-init

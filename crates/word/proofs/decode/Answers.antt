@@ -1,7 +1,5 @@
 -- Decoding goes by the kind, row by row.
-use borrow.Author.Tests.{ne_eqb}
 use Rattle.word.specs.Words.{decoded, of_kind}
-use borrow.Author.Rules.{rules}
 use Rattle.std.proofs.Common.{arith}
 use Rattle.std.proofs.lemmas.Bool.Decides.{nat_tests}
 use Rattle.word.proofs.decode.Goals as goal

@@ -1,0 +1,8 @@
+-- An encoded grammar: by whether it is read without a fault.
+use mathlib.Core.Path.{◌∙◌}
+use Rattle.families.proofs.Findings.{firsts_faulty}
+use Rattle.first_sets.proofs.analyze.Goals as goal
+
+pub returns-in-Faulty : goal.returns-in-Faulty
+returns-in-Faulty c =
+    c.refused.ensures ∙ firsts_faulty _ _ c.admit-outcome.ensures c.in-Faulty.is
