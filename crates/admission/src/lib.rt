@@ -102,6 +102,7 @@ fn of_heading(outcome: Reading) -> bool
 }
 
 // With two tokens of lookahead, behind the length and the heading.
+#[tactic(auto, using(crate::proofs::Admitted::many_terminals))]
 fn admit_two(words: &[u32], outcome: Reading) -> Reading
     ensures { result ≡ faulty_or (two_tokens_fault outcome words.now) outcome }
 {

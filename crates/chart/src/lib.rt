@@ -46,6 +46,7 @@ pub fn before(chart: &[u64; CHART], nonterminal: u32, set: u64, start: usize, en
 }
 
 // Gives a span to those nonterminals of a word that are below a number; it goes from the first to the last of the word.
+#[tactic(auto, using(crate::proofs::Added::all_put))]
 pub fn add(chart: &mut [u64; CHART], nonterminals: u32, start: usize, end: usize, word: u32)
     ensures { chart.new ≡ added_word chart.old nonterminals start end word }
 {

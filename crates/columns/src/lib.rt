@@ -22,6 +22,7 @@ pub fn count(lookahead: Lookahead, terminals: u32) -> usize
 }
 
 // The element of a column.
+#[tactic(auto, unfolding(crate::specs::inner::Columns::column_element))]
 pub fn element(lookahead: Lookahead, terminals: u32, column: u32) -> u32
     ensures { result ≡ column_element lookahead terminals column }
 {
@@ -67,6 +68,7 @@ pub fn column_end(lookahead: Lookahead, terminals: u32) -> u32
 }
 
 // The column of the lookahead string at a place.
+#[tactic(auto, using(crate::proofs::Columns::column_last_lem, event::proofs::Inputs::input_at, event::proofs::Inputs::input_length))]
 pub fn column_at(events: &[u8], lookahead: Lookahead, terminals: u32, place: usize) -> u32
     ensures { result ≡ column_at lookahead terminals (input_of events.now) place }
 {

@@ -21,6 +21,7 @@ pub enum Unknown {
 }
 
 // The first event that is no terminal of a grammar.
+#[tactic(auto, using(crate::proofs::Known::unknown_here))]
 pub fn first_unknown(events: &[u8], terminals: u32) -> Unknown
     ensures { result ≡ unknown_from terminals 0 (input_of events.now) }
 {

@@ -11,6 +11,7 @@ use inputs::{INPUTS, count_inputs};
 
 // With a lent memo table and a lent log of so many entries and bytes: that they are long enough, that the length is not too great, and that there
 // are not too many inputs of it.
+#[tactic(auto, using(inputs::proofs::Counting::count_over, inputs::proofs::Counting::count_few))]
 pub fn with_length(finding: Finding, tokens: usize, log: usize, memo: usize) -> Finding
     ensures { result ≡ with_search log memo finding tokens }
 {

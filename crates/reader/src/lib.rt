@@ -68,6 +68,7 @@ fn read_rules(words: &[u32], sizes: Sizes) -> Reading
     finish(progress, at)
 }
 
+#[tactic(auto, unfolding(grammar::specs::Reading::is_within))]
 fn within(number: u32, limit: u32) -> bool
     ensures { result ≡ is_within number limit }
 {
@@ -100,6 +101,7 @@ pub fn declared(word: Word) -> Sizes
 }
 
 // The first fault of an encoded grammar, or its sizes.
+#[tactic(auto, using(grammar::proofs::Heading::reading_long, grammar::proofs::Heading::reading_empty))]
 pub fn read(words: &[u32]) -> Reading
     ensures { result ≡ reading words.now }
 {

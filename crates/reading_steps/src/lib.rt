@@ -107,6 +107,7 @@ pub fn after(word: Word, state: State) -> State
 }
 
 // The progress with one rule more, where there is room for it.
+#[tactic(auto, unfolding(grammar::specs::Reading::counted))]
 pub fn counted(state: State, sizes: Sizes, at: usize) -> Step
     ensures { result ≡ counted_of state sizes at }
 {

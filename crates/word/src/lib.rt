@@ -30,6 +30,7 @@ fn bare(word: Word, payload: u32) -> Word
     if payload == 0 { word } else { Word::Invalid }
 }
 
+#[tactic(auto, unfolding(crate::specs::Words::heading))]
 fn heading(payload: u32) -> Word
     ensures { result ≡ heading_word payload }
 {

@@ -2,17 +2,12 @@
 use mathlib.Core.Path.{ap, sym, ◌∙◌}
 use native.Mathlib.Omega.{arith}
 use Rattle.admission.specs.Admission.{word_fault, faulty_or}
-use Rattle.admission.proofs.Admitted.{heading_first, many_terminals, words_then}
+use Rattle.admission.proofs.Admitted.{heading_first, words_then}
 use Rattle.admission.proofs.admit_two.Goals as goal
 
 pub returns-then-of_heading : goal.returns-then-of_heading
 returns-then-of_heading c =
     heading_first c.args.outcome c.args.words.now (sym c.of_heading.ensures ∙ c.if-of_heading.true)
-
-pub returns-then-declared_terminals-gt-TERMINALS_OF_TWO : goal.returns-then-declared_terminals-gt-TERMINALS_OF_TWO
-returns-then-declared_terminals-gt-TERMINALS_OF_TWO c =
-    many_terminals c.args.outcome c.args.words.now (sym c.of_heading.ensures ∙ c.if-of_heading.false)
-    (omega (arith, c.declared_terminals.ensures))
 
 pub returns : goal.returns
 returns c =

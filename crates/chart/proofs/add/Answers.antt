@@ -3,7 +3,7 @@ use mathlib.Core.Logic.{inl, inr}
 use native.Mathlib.Omega.{arith}
 use lib.Count.{count_trailing_zeros}
 use Rattle.tabular_promises.proofs.PlaceSets.{digit}
-use Rattle.tabular_promises.proofs.Charts.{first_added, adding_more, none_added, added_of_many, added_beyond, no_more_added, last_added}
+use Rattle.tabular_promises.proofs.Charts.{first_added, adding_more, none_added, added_of_many, added_beyond, last_added}
 use Rattle.chart.proofs.add.Goals as goal
 
 pub returns-then-word-eq0 : goal.returns-then-word-eq0
@@ -19,11 +19,6 @@ pub loop-at-init : goal.loop-at-init
 loop-at-init c =
     let args = c.args in
     (inr (omega arith), first_added args.chart.now args.start args.end args.word (count_trailing_zeros 32 args.word) (omega arith))
-
-pub returns-then-rest-eq0 : goal.returns-then-rest-eq0
-returns-then-rest-eq0 c =
-    no_more_added _ _ _ _ _ c.if-nonterminals-gt-NONTERMINALS.false c.if-end-ge-TABULAR_PLACES.false c.loop-at.at (omega (arith, c.loop-at-test.true))
-    c.loop-at.invariant.1 c.if-rest-eq0.true
 
 pub loop-at-preserved : goal.loop-at-preserved
 loop-at-preserved c = (
