@@ -22,8 +22,7 @@ use Rattle.columns.specs.inner.Columns.{column_at}
 use Rattle.descent_arrays.proofs.Listing.{listed_by}
 use Rattle.tree.specs.ParseTrees.{vertex}
 use Rattle.tree.specs.Writing.{vertex_word}
-use Rattle.tree_writer_promises.specs.inner.Labels.{label_rule, label_word, label_of, label_at, labels_of, labels_read}
-use Rattle.tree_writer_promises.specs.inner.Labels.{LabelsGiven, LabelledBelow, Labelled}
+use Rattle.tree_writer_promises.specs.inner.Labels.{label_rule, label_word, label_of, label_at, labels_of, labels_read, LabelsGiven, LabelledBelow, Labelled}
 
 -- the word for a call
 module _ (z : Sizes) (events table memo : List ℕ) (A i : ℕ) where

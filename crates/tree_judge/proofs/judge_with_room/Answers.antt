@@ -11,7 +11,8 @@ returns-then-table-lt-TABLE_WORDS c =
 pub returns-then-memo-lt-MEMO_ENTRIES : goal.returns-then-memo-lt-MEMO_ENTRIES
 returns-then-memo-lt-MEMO_ENTRIES c =
     let given = c.args in
-    short_memo given.words.now (input_of given.events.now) given.table.now given.memo.now given.room c.if-table-lt-TABLE_WORDS.false c.if-memo-lt-MEMO_ENTRIES.true
+    short_memo given.words.now (input_of given.events.now) given.table.now given.memo.now given.room c.if-table-lt-TABLE_WORDS.false
+    c.if-memo-lt-MEMO_ENTRIES.true
 
 pub returns-then-room-lt-MEMO_ENTRIES : goal.returns-then-room-lt-MEMO_ENTRIES
 returns-then-room-lt-MEMO_ENTRIES c =
