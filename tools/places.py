@@ -14,5 +14,9 @@ def place(in_repository, installed):
 
 HEADER = place('include/vinegarspit.h', 'include/vinegarspit.h')
 LIBRARY = place('target/libvinegarspit.so', 'lib/libvinegarspit.so')
-PROGRAMS = place('target/bin', 'libexec/vinegarspit')
 EXAMPLES = os.path.join(ROOT, 'examples')
+
+
+def program_place(name):
+    """Where a program is: rt leaves it in the folder of its crate."""
+    return place(f'crates/{name}/out/{name}', f'libexec/vinegarspit/{name}')

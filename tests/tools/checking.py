@@ -3,9 +3,9 @@ import os, shutil, subprocess, sys
 ROOT = os.path.normpath(os.path.join(os.path.dirname(os.path.abspath(__file__)), '..', '..'))
 sys.path.insert(0, os.path.join(ROOT, 'tools'))
 sys.dont_write_bytecode = True
+from programs import path_of
 
 
-BIN = os.environ.get('VINEGARSPIT_BIN') or os.path.join(ROOT, 'target', 'bin')
 CARD = os.path.join(ROOT, 'tools', 'card')
 counts = {True: 0, False: 0}
 
@@ -27,7 +27,7 @@ def example(name):
 
 
 def built(*names):
-    missing = [name for name in names if not os.path.exists(os.path.join(BIN, name))]
+    missing = [name for name in names if not os.path.exists(path_of(name))]
     for name in missing:
         print(f'the program {name} is not built: what needs it is passed over')
         check('--all' not in sys.argv, f'{name} is not built')

@@ -1,8 +1,9 @@
 """The examples: their sheets and their logs, by the built programs."""
 import os, subprocess, tempfile
-from checking import BIN, CARD, ROOT, check, example, run
+from checking import CARD, ROOT, check, example, run
 from logs import parse_input
 from notation import encode, read_text, to_bytes
+from programs import path_of
 
 
 SHEET_OF_E = """names 4 letters 2 rules 5
@@ -61,7 +62,7 @@ def logs():
                 card.write(to_bytes(encode(text.grammar)))
             for expected in text.expected:
                 tokens = parse_input(text.grammar, expected.written)
-                printed = subprocess.run([os.path.join(BIN, 'judge')], input=tokens, capture_output=True, cwd=folder, timeout=60)
+                printed = subprocess.run([path_of('judge')], input=tokens, capture_output=True, cwd=folder, timeout=60)
                 first = printed.stdout.decode().split('\n')[0]
                 check(first == '{} {} {}'.format(expected.verdict, *expected.calls), f'examples/{file}: {expected.written} is {first}')
                 rows += 1

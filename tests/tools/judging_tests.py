@@ -3,8 +3,9 @@ import os, random, shutil, subprocess, sys, tempfile
 from itertools import product
 import vinegarspit
 from calls import MARKED, trusted
-from checking import BIN, CARD, ROOT, check, example, run
+from checking import CARD, ROOT, check, example, run
 from notation import MAX_INPUT, encode, parse, to_bytes
+from programs import NAMES, path_of
 from random_cards import small_card
 
 
@@ -73,18 +74,21 @@ def marks(number, lookahead):
 # A copy of the tools without programs, in a folder with a space in its name, and an rt that only puts them there
 
 STUB = """#!/bin/sh
-echo "rt: answer proved (3 s)"
-mkdir -p target/bin && cp "{programs}/sheet" "{programs}/judge" "{programs}/gaps" target/bin/
-echo "rt: ok"
+echo "rt: chose --jobs 2 for answer" >&2
+mkdir out && cp "{programs}/$(basename "$PWD")" out/
+echo refused 3 0
 """
 
 
 def first_build():
     with tempfile.TemporaryDirectory() as top:
         folder, programs = os.path.join(top, 'my layouts'), os.path.join(top, 'my programs')
-        shutil.copytree(BIN, programs)
+        os.mkdir(programs)
         for part in ('tools', 'examples'):
             shutil.copytree(os.path.join(ROOT, part), os.path.join(folder, part))
+        for name in NAMES:
+            shutil.copy(path_of(name), programs)
+            os.makedirs(os.path.join(folder, 'crates', name))
         shutil.copy(os.path.join(ROOT, 'crates.txt'), folder)
         stub = os.path.join(folder, 'path', 'rt')
         os.mkdir(os.path.dirname(stub))
@@ -104,7 +108,7 @@ def first_build():
                 file.write(text)
             os.chmod(stub, 0o755)
             code, out, errors = judge()
-            check(code == expected and 'rt check sheet judge gaps' in errors and 'minutes' in errors, f'a first build: {code} {errors}')
+            check(code == expected and '`rt run`' in errors and 'minutes' in errors, f'a first build: {code} {errors}')
         check('1 of ' in errors and out.startswith('accepted'), f'a first build: {out} {errors}')
         check(judge()[2] == '', 'nothing is built twice')
     print('a first build: announced, run once, and its failure told')

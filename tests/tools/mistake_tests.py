@@ -134,7 +134,7 @@ def numbers():
 # A copy of the tools, in a folder with a space in its name, with an rt that only puts the archive there
 
 STUB = """#!/bin/sh
-mkdir -p target/staticlib && cp "{archive}" target/staticlib/libembed.a
+mkdir -p out && cp "{archive}" out/libembed.a
 """
 
 
@@ -145,8 +145,8 @@ def without_a_library():
         for part in ('tools', 'examples', 'include'):
             shutil.copytree(os.path.join(ROOT, part), os.path.join(folder, part))
         shutil.copy(os.path.join(ROOT, 'crates.txt'), folder)
-        for part in ('crates', 'path'):
-            os.mkdir(os.path.join(folder, part))
+        for part in ('crates/embed', 'path'):
+            os.makedirs(os.path.join(folder, part))
         rt = os.path.join(folder, 'path', 'rt')
         with open(rt, 'w') as file:
             file.write(STUB.format(archive=os.path.join(ROOT, 'target', 'staticlib', 'libembed.a')))

@@ -1,8 +1,9 @@
 """What is refused is told in names, with lines, and gaps and overlaps as the program finds them."""
 import os
-from checking import BIN, CARD, check, run
+from checking import CARD, check, run
 from explain import claims, letters_behind
 from notation import decode, encode, from_bytes, parse, to_bytes
+from programs import path_of
 from recorded_cards import recorded
 
 
@@ -98,11 +99,11 @@ def gaps():
     rules = ['not ' + ' & not '.join(names[1:])] + ['not a0'] * 3
     fullest = 'letters ' + ' '.join(f'a{at}' for at in range(24)) + '\n' + '\n'.join(
         f'{name} -> {rule}' for at, name in enumerate(names) for rule in (rules if at == 0 else rules[1:] * 2)[:4])
-    lines = run(os.path.join(BIN, 'gaps'), stdin=to_bytes(encode(parse(fullest))))[1].decode()
+    lines = run(path_of('gaps'), stdin=to_bytes(encode(parse(fullest))))[1].decode()
     check(lines.count('\n') == 800 and lines.splitlines() == list(gap_lines(parse(fullest))), 'the gaps of a card with four rules in every cell')
     clashing = clear = 0
     for data, refusal in recorded().items():
-        lines = run(os.path.join(BIN, 'gaps'), stdin=data)[1].decode().splitlines()
+        lines = run(path_of('gaps'), stdin=data)[1].decode().splitlines()
         if refusal and refusal[0] not in (9, 10, 11):
             check(lines == ['refused {} {}'.format(*refusal)], f'gaps of {data.hex()}: {lines}')
         else:

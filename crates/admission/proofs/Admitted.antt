@@ -66,7 +66,8 @@ module _ (o : Reading) (words : List ℕ) where
       go (Read z) e h = absurd (false≢true h)
       go (Faulty x) e h = rw h
 
-  pub many_terminals : of_heading o ≡ false → max_terminals_of_two < (grammar_of words).terminals → Faulty TooManyTerminals ≡ faulty_or (two_tokens_fault o words) o
+  pub many_terminals : of_heading o ≡ false → max_terminals_of_two < (grammar_of words).terminals
+      → Faulty TooManyTerminals ≡ faulty_or (two_tokens_fault o words) o
   unfolding two_tokens_fault
   many_terminals h l = go o h
     where
@@ -117,17 +118,20 @@ fault_none none o z e = (refl, e)
 fault_none (some x) o z e = absurd (faulty x z e)
 
 -- with two tokens, where reading finds no fault
-two_none : (words : List ℕ) (z : Sizes) → two_tokens_fault (Read z) words ≡ none → ((grammar_of words).terminals ≤ max_terminals_of_two) × (first_alone words ≡ Absent)
+two_none : (words : List ℕ) (z : Sizes) → two_tokens_fault (Read z) words ≡ none
+    → ((grammar_of words).terminals ≤ max_terminals_of_two) × (first_alone words ≡ Absent)
 unfolding two_tokens_fault
 two_none words z e = go (ltb max_terminals_of_two (grammar_of words).terminals) refl (first_alone words) e
   where
     go : (b : Bool) → ltb max_terminals_of_two (grammar_of words).terminals ≡ b → (a : Alone)
-        → first_fault (none ∷ fault_if b TooManyTerminals ∷ word_fault (Read z) a ∷ []) ≡ none → ((grammar_of words).terminals ≤ max_terminals_of_two) × (a ≡ Absent)
+        → first_fault (none ∷ fault_if b TooManyTerminals ∷ word_fault (Read z) a ∷ []) ≡ none
+        → ((grammar_of words).terminals ≤ max_terminals_of_two) × (a ≡ Absent)
     go true l a e = let n : ◌≡◌ {A = ℕ} 0 1 = cc in absurd (omega arith)
     go false l Absent e = (ltb-false max_terminals_of_two (grammar_of words).terminals l, refl)
     go false l (At i) e = let n : ◌≡◌ {A = ℕ} 0 1 = cc in absurd (omega arith)
 
-none_two : (words : List ℕ) (z : Sizes) → (grammar_of words).terminals ≤ max_terminals_of_two → first_alone words ≡ Absent → two_tokens_fault (Read z) words ≡ none
+none_two : (words : List ℕ) (z : Sizes) → (grammar_of words).terminals ≤ max_terminals_of_two → first_alone words ≡ Absent
+    → two_tokens_fault (Read z) words ≡ none
 unfolding two_tokens_fault
 none_two words z l a = rw (le-ltb max_terminals_of_two (grammar_of words).terminals l, a)
 

@@ -49,7 +49,8 @@ one_diagnosis_by k words _ _ (DiagnosisBy.fault {i} {x} s f v) (DiagnosisBy.faul
 one_diagnosis_by k words _ _ (DiagnosisBy.fault s f x) (DiagnosisBy.encoding {G} t e g) = absurd (f.whole G e g)
 one_diagnosis_by k words _ _ (DiagnosisBy.encoding s e f) (DiagnosisBy.long t) = absurd (omega arith)
 one_diagnosis_by k words _ _ (DiagnosisBy.encoding {G} s e f) (DiagnosisBy.fault t g x) = absurd (g.whole G e f)
-one_diagnosis_by k words _ _ (DiagnosisBy.encoding {G} s e f) (DiagnosisBy.encoding {G = H} t g h) = ap (λ F. Read (sizes_of F)) (encode_injective words G H e g)
+one_diagnosis_by k words _ _ (DiagnosisBy.encoding {G} s e f) (DiagnosisBy.encoding {G = H} t g h) =
+    ap (λ F. Read (sizes_of F)) (encode_injective words G H e g)
 
 pub diagnosed : (k : Lookahead) (words : List ℕ) → Diagnosed k words
 diagnosed k words o =

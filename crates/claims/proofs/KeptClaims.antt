@@ -48,7 +48,11 @@ pub record Keeping (k : Lookahead) (words : List ℕ) (n : ℕ) (heads sets : Li
   pub claims : FilledTo (claim_by k words) n true sets i
 
 pub keeping_start : (k : Lookahead) (words : List ℕ) {n : ℕ} {heads sets : List ℕ} → ByRules n heads → ByRules n sets → Keeping k words n heads sets 0
-keeping_start k words {n} {heads} {sets} h s = record { own = filled_none (head_by words) n true heads h; claims = filled_none (claim_by k words) n true sets s }
+keeping_start k words {n} {heads} {sets} h s = record {
+  own = filled_none (head_by words) n true heads h;
+  claims = filled_none
+      (claim_by k words) n true sets s;
+}
 
 module _ {k : Lookahead} {words : List ℕ} {z : Sizes} {starts meets follows : List ℕ} (g : FamiliesGiven k words z starts meets follows) where
   pub read : reading words ≡ Read z

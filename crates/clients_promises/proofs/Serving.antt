@@ -2,10 +2,9 @@
 use mathlib.Core.Path.{◌≡◌, refl, sym, ap, ◌∙◌}
 use mathlib.Core.Bool.{Bool, true, false, true≢false}
 use mathlib.Core.List.{List, [], ◌∷◌}
-use mathlib.Core.Logic.{◌↔◌, ⊎_elim}
+use mathlib.Core.Logic.{◌↔◌}
 use mathlib.Core.Option.{Option, none, some}
 use denote.Enum.Declared.{tag_of}
-use types.Run.{OneOf}
 use Prim.Native.Nat.{ℕ, ◌≤◌, ◌<◌}
 use native.Mathlib.Omega.{arith}
 use lib.Dec.{leb}
@@ -129,7 +128,7 @@ module _ (client share limit : ℕ) (us : List Usage) (eight : length us ≡ cli
 
   -- by what is answered before it is judged
   module _ {allowed : Answer} (e : allowed ≡ allowed_by client share limit us) where
-    pub turned_away_served : {r : Served} → OneOf (0 ∷ 2 ∷ 3 ∷ []) (tag_of the_type allowed) → r ≡ served_with client allowed us
+    pub turned_away_served : {r : Served} → (allowed ≡ Passed → ⊥) → r ≡ served_with client allowed us
         → JudgesFor client share limit words input table memo us r table memo
     turned_away_served {r} t d = go (leb clients client) reached_before refl refl e
       where
@@ -138,7 +137,7 @@ module _ (client share limit : ℕ) (us : List Usage) (eight : length us ≡ cli
             → JudgesFor client share limit words input table memo us r table memo
         go true q h b z = rw (d, z) (unknown_client (leb-true clients client h))
         go false true h b z = rw (d, z) (quota_reached (leb-false clients client h) b)
-        go false false h b z = absurd (⊎_elim (λ e. omega arith) (⊎_elim (λ e. omega arith) (λ e. omega arith)) (rw z at t))
+        go false false h b z = absurd (t z)
 
     pub let_through_served : {a : Answer} {r : Served} {table' memo' : List ℕ} → tag_of the_type allowed ≡ 1
         → Judges One words input table memo a table' memo' → r ≡ served_with client a us

@@ -29,7 +29,7 @@ client_fault client share limit called table memo words input =
     ∷ judge_fault One table memo words input
     ∷ [])
 
--- need not be believed: exhausted (turned-away)
+-- need not be believed: exhausted (turned_away)
 pub record JudgesFor (client share limit : ℕ) (words input table memo : List ℕ) (us : List Usage) (r : Served) (table' memo' : List ℕ) : Type 0 where
   pub leaves : Leaves (client_fault client share limit (called_by us) (length table) (length memo) words input)
       (verdict_of One (grammar_of words) input) r.answer

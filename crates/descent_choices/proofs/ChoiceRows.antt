@@ -127,7 +127,8 @@ module _ {starts : List ℕ} {columns : ℕ} {entries : List ℕ} {tokens A : �
     unfolding choice_word
     in_row c l = go (dec_lt c columns) (ℕ_discrete c end_column) (ℕ_discrete c row_column)
       where
-        go : Dec (c < columns) → Dec (c ≡ end_column) → Dec (c ≡ row_column) → get_or after (A * choice_columns + c) 0 ≡ choice_word starts columns entries tokens A c
+        go : Dec (c < columns) → Dec (c ≡ end_column) → Dec (c ≡ row_column)
+            → get_or after (A * choice_columns + c) 0 ≡ choice_word starts columns entries tokens A c
         go (yes k) e r =
             other (A * choice_columns + c) (λ q. absurd (omega (arith, g.few_columns))) (λ q. absurd (omega (arith, g.few_columns)))
             ∙ w.written c (omega arith)

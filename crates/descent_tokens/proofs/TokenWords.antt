@@ -129,7 +129,8 @@ module _ {k : Lookahead} {n : ℕ} {w : List ℕ} (g : TokensGiven k w n) where
 
   pub tokens_hold : TokensHold k n w (tokens_of k n w)
   tokens_hold =
-      let terminals : (i : ℕ) → i < length w → get_or (tokens_of k n w) i 0 % column_weight ≡ get_or w i 0 = λ i h. omega (arith, word_here i h, token_few i h) in
+      let terminals : (i : ℕ) → i < length w → get_or (tokens_of k n w) i 0 % column_weight ≡ get_or w i 0 =
+      λ i h. omega (arith, word_here i h, token_few i h) in
       let end : get_or (tokens_of k n w) (length w) 0 % column_weight ≡ end_mark = omega (arith, word_last) in
       record {
         input = held_is w (tokens_of k n w) (omega (arith, long, g.short)) terminals token_few end;

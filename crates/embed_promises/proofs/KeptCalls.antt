@@ -39,7 +39,8 @@ call_holds s = ap held_input (same s.changed.kept s.events_written s.state_writt
     same : (k : KeptInput) {events' state' : List ℕ} → events' ≡ k.events → state' ≡ state_of k.progress → kept_input events' (progress_in state') ≡ k
     same k e f = rw (e, f) refl
 
-calls_hold : {events state events' state' : List ℕ} {l : List Step} → Calls events state l events' state' → held_in events' state' ≡ ran l (held_in events state)
+calls_hold : {events state events' state' : List ℕ} {l : List Step} → Calls events state l events' state'
+    → held_in events' state' ≡ ran l (held_in events state)
 unfolding ran
 calls_hold idle = refl
 calls_hold (next {l = l} r s rest) = calls_hold rest ∙ ap (ran l) (call_holds s ∙ s.steps.holds)

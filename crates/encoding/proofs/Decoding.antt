@@ -10,8 +10,8 @@ use Rattle.word.specs.declared.Word.TheVariants.{Symbol}
 use Rattle.word.specs.Words.{decoded}
 use Rattle.grammar.specs.Syntax.{Body, Rule, Grammar, WellFormed}
 use Rattle.grammar.specs.Encoding.{Parsed, parsed, on_word, parse, sizes, grammar_of}
-use Rattle.encoding.specs.Encode.{symbol_word, positive_word, negative_word, end_word, body_words, conjunct_words, rule_words, rules_words, encode, WithinLimits}
-use Rattle.encoding.specs.Encode.{Encodes}
+use Rattle.encoding.specs.Encode.{symbol_word, positive_word, negative_word, end_word, body_words, conjunct_words, rule_words, rules_words, encode}
+use Rattle.encoding.specs.Encode.{WithinLimits, Encodes}
 use Rattle.grammar.proofs.WellFormed.{Each, InRange, RuleFits}
 use Rattle.encoding.proofs.Words.{decoded_heading, decoded_rule, decoded_positive, decoded_negative, decoded_symbol, decoded_end}
 

@@ -20,8 +20,8 @@ use Rattle.grammar.specs.declared.reading.Reading.TheVariants.{Read}
 use Rattle.grammar.specs.Limits.{max_nonterminals, max_terminals, max_rules}
 use Rattle.grammar.specs.Syntax.{Body, Rule, Grammar, WellFormed}
 use Rattle.grammar.specs.Encoding.{sizes}
-use Rattle.grammar.specs.Reading.{row, allows, in_range, symbol_in_range, begins_rule, state_after, progress, one_more, counted, on_step, finished, scan, is_within}
-use Rattle.grammar.specs.Reading.{headed, opened}
+use Rattle.grammar.specs.Reading.{row, allows, in_range, symbol_in_range, begins_rule, state_after, progress, one_more, counted, on_step, finished, scan}
+use Rattle.grammar.specs.Reading.{is_within, headed, opened}
 use Rattle.encoding.specs.Encode.{symbol_word, rule_word, positive_word, negative_word, end_word, body_words, conjunct_words, rule_words, rules_words, encode}
 use Rattle.encoding.specs.Encode.{sizes_of, WithinLimits}
 use Rattle.grammar.proofs.WellFormed.{Each, InRange, RuleFits}
@@ -83,7 +83,8 @@ module _ (n t : ℕ) (few_nonterminals : n < 2 ^ 8) (few_terminals : t < 2 ^ 8) 
   unfolding body_words
   body_goes [] s k z ws w h g = g
   body_goes (X ∷ b) s k z ws w h g =
-      goes_word (symbol_word X) (Symbol X) s (sizes n t k) z (body_words b ws) (symbol_of n t few_nonterminals few_terminals X b h) w (symbol_ranged X b k h) refl
+      goes_word (symbol_word X) (Symbol X) s (sizes n t k) z (body_words b ws) (symbol_of n t few_nonterminals few_terminals X b h) w
+      (symbol_ranged X b k h) refl
       (body_goes b s k z ws w (rest_of n t few_nonterminals few_terminals X b h) g)
 
   negatives_go : (ns : List Body) (s : State) (k : ℕ) (z : Sizes) (ws : List ℕ) → Within s → Each (InRange (sizes n t 0)) ns

@@ -117,7 +117,8 @@ module _ (k : Lookahead) (words : List ℕ) (z : Sizes) (e : admission k words �
   firsts_at A =
       let w = well_read words z (admitted_read k words e) in
       let many : (grammar_of words).nonterminals ≤ max_nonterminals = omega (arith, w.few_nonterminals, w.nonterminals) in
-      rw f (array_at k (grammar_of words) (few_terminals_lem k words e) (first (grammar_of words) (tokens k)) (first_lookahead (grammar_of words) (tokens k)) many A)
+      rw f (array_at k (grammar_of words) (few_terminals_lem k words e) (first (grammar_of words) (tokens k))
+      (first_lookahead (grammar_of words) (tokens k)) many A)
 
   pub follow_listed : (l : List ℕ) → length l ≡ max_nonterminals → LeastNumbers (FollowNumbersClosed k (at firsts) (parse words).rules) l
       → l ≡ listed max_nonterminals (follow_number k (grammar_of words))

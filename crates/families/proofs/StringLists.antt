@@ -34,7 +34,8 @@ pub lists_number : (k : Lookahead) (us : List (List ℕ)) (s : ℕ) → Lists k 
 lists_number k us s lists low =
     let listed = member same_string us in
     subset_antisym s (set_number k listed)
-    (λ l h. has_number k listed l (low l h) (mem_member same_string strings_equality us (string_of k l) ((lists (string_of k l)).1 (string_in k s l (low l h) h))))
+    (λ l h. has_number k listed l (low l h) (mem_member same_string strings_equality us (string_of k l)
+    ((lists (string_of k l)).1 (string_in k s l (low l h) h))))
     (λ l h. in_string k s l ((lists (string_of k l)).0 (member_mem same_string strings_equality us (string_of k l) (number_has k listed l h))))
 
 module _ (k : Lookahead) (G : Grammar) (formed : WellFormed G) (few : G.terminals ≤ alphabet k) (r : Rule) (m : Memᴰ r G.rules) where

@@ -109,7 +109,8 @@ module _ (words : List ℕ) {r : Claims} (e : r ≡ claims_of One words) where
         lines_same z _ (claims_at G) _ (overruns G 1)
         (λ A c i k j. rw read.terminals (claimant_same G hs cs few A c i _ (omega (arith, read.terminals)) (read.begins i j)))
         (λ A k.
-        ap (λ l. overruns_in l A) os ∙ ap overruns_by (listed_at max_nonterminals (λ A. overrun_set One (overruns G 1 A)) A (omega (arith, read.few_nonterminals)))
+        ap (λ l. overruns_in l A) os ∙ ap overruns_by (listed_at max_nonterminals (λ A. overrun_set One (overruns G 1 A)) A
+        (omega (arith, read.few_nonterminals)))
         ∙ overrun_same (overruns G 1 A)) in
         let u = lines_are G z read.nonterminals read.terminals read.rules in
         record { put = rw (told.0, told.1) (rw (t ∙ u) at p); tells = lines_tell words }

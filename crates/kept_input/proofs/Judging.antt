@@ -46,7 +46,8 @@ module _ (kept : KeptInput) (whole : length kept.events ≡ max_tokens) (n : ℕ
       }
 
 -- two judgements alike but for the directions of the events that are kept leave the same
-pub kept_ignores : (k : Lookahead) (words table memo : List ℕ) (kept turned : KeptInput) → input_of (held_input kept).events ≡ input_of (held_input turned).events
+pub kept_ignores : (k : Lookahead) (words table memo : List ℕ) (kept turned : KeptInput)
+    → input_of (held_input kept).events ≡ input_of (held_input turned).events
     → (l m : Left) → JudgesKept k words kept table memo l.0 l.1.0 l.1.1 → JudgesKept k words turned table memo m.0 m.1.0 m.1.1
     → l ≡ m
 kept_ignores k words table memo kept turned e l m i j =

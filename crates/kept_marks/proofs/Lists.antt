@@ -26,7 +26,8 @@ applied_suc f zero (x ∷ l) = refl
 applied_suc f (suc n) [] = refl
 applied_suc f (suc n) (x ∷ l) = ap (λ (m : List ℕ). f x ∷ m) (applied_suc f n l)
 
-pub applied_more : (f : ℕ → ℕ) (n : ℕ) (l : List ℕ) {now : List ℕ} {y : ℕ} → now ≡ applied_to f n l → y ≡ f (get_or now n 0) → set now n y ≡ applied_to f (n + 1) l
+pub applied_more : (f : ℕ → ℕ) (n : ℕ) (l : List ℕ) {now : List ℕ} {y : ℕ} → now ≡ applied_to f n l → y ≡ f (get_or now n 0)
+    → set now n y ≡ applied_to f (n + 1) l
 applied_more f n l e q = rw (q, e, add-one n) (applied_suc f n l)
 
 pub applied_all : (f : ℕ → ℕ) (n : ℕ) (l : List ℕ) → length l ≤ n → applied_to f n l ≡ map f l

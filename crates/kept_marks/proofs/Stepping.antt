@@ -63,7 +63,8 @@ codes_cut : (cs : List ℕ) (to n c : ℕ) → to < unset_code → length cs ≡
 codes_cut cs to n c h e =
     rw (← e)
     (map_map (cleared_beyond n) (cleared_beyond to) cs
-    ∙ sym (values_same (λ m. code_within to n (get_or cs m unset_code) h) (length cs) ∙ values_list (λ x. cleared_beyond to (cleared_beyond n x)) unset_code cs))
+    ∙ sym (values_same (λ m. code_within to n (get_or cs m unset_code) h) (length cs)
+    ∙ values_list (λ x. cleared_beyond to (cleared_beyond n x)) unset_code cs))
 
 codes_marked : (cs : List ℕ) (n m x c : ℕ) → length cs ≡ c
     → set (map (cleared_beyond n) cs) m x ≡ values_of (λ k. code_of (choose (eqb k m) (some x) (read_mark n (get_or cs k unset_code)))) c

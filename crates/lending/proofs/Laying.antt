@@ -101,7 +101,8 @@ made_long z firsts follows entries =
     let rest = drop (word_count One z) (replicate max_table_words no_entry) in
     omega (arith, length-append (laid One z firsts follows entries) rest, laid_long One z firsts follows entries)
 
-pub made_room : (z : Sizes) (firsts follows entries : List ℕ) {words : List ℕ} {n i : ℕ} → words ≡ made_up z firsts follows entries → n ≡ word_count One z → i < n
+pub made_room : (z : Sizes) (firsts follows entries : List ℕ) {words : List ℕ} {n i : ℕ} → words ≡ made_up z firsts follows entries → n ≡ word_count One z
+    → i < n
     → i < length words
 made_room z firsts follows entries w e h = omega (arith, ap length w, made_long z firsts follows entries)
 

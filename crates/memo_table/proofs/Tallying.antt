@@ -112,7 +112,8 @@ module _ (m : Memo) (tokens : ℕ) where
       pub called_here : (get_or m (A * (tokens + 1) + i) 0 ≡ uncalled_code → ⊥) → true ≡ called_at m N tokens i
       unfolding called_at
       called_here n =
-          let t : T (written_among tokens m (call_at A i)) = rw (ne_eqb (get_or m (A * suc tokens + i) uncalled_code) uncalled_code (λ e. n (entry_same ∙ e))) tt in
+          let t : T (written_among tokens m (call_at A i)) = rw
+          (ne_eqb (get_or m (A * suc tokens + i) uncalled_code) uncalled_code (λ e. n (entry_same ∙ e))) tt in
           sym (T_true _ (below_make N (λ B. written_among tokens m (call_at B i)) A h t))
 
       pub called_not : get_or m (A * (tokens + 1) + i) 0 ≡ uncalled_code → called_at m A tokens i ≡ false → called_at m (A + 1) tokens i ≡ false

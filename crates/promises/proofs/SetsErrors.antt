@@ -71,7 +71,8 @@ module _ {k : Lookahead} {P : Error → Type 0} (each : SetsErrors k P) where
   left_each G few (some A) e =
       of_some P (LeftRecursive A) (each.left_recursive A (omega (arith, ((lowest_some G.nonterminals (left_recursive G) A).0 e).0)))
 
-  unproductive_each : (G : Grammar) → G.nonterminals ≤ max_nonterminals → (o : Option ℕ) → lowest_unproductive G (tokens k) ≡ o → OfFault P (unproductive_fault o)
+  unproductive_each : (G : Grammar) → G.nonterminals ≤ max_nonterminals → (o : Option ℕ) → lowest_unproductive G (tokens k) ≡ o
+      → OfFault P (unproductive_fault o)
   unfolding lowest_unproductive
   unproductive_each G few none e = of_none P
   unproductive_each G few (some A) e =

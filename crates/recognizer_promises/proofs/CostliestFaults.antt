@@ -238,7 +238,8 @@ module _ (words : List ℕ) (n : ℕ) (log table memo : List ℕ) where
   module _ (e : why ≡ none) where
     each : Faultless (costliest_rows (length log) (length table) (length memo) words n)
     each =
-        each_none (costliest_rows (length log) (length table) (length memo) words n) (sym (costliest_rows_lem (length log) (length table) (length memo) words n) ∙ e)
+        each_none (costliest_rows (length log) (length table) (length memo) words n)
+        (sym (costliest_rows_lem (length log) (length table) (length memo) words n) ∙ e)
 
     encoded : Encodes words G
     encoded = passed_encodes words (passed_fault One words each.1.1.1.0)

@@ -28,7 +28,8 @@ pub grammar_each : {k : Lookahead} {P : Error → Type 0} (words : List ℕ) →
 grammar_each {k} {P} words each l later =
     sets_each each.sets words (clash_fault k (first_clash k (grammar_of words)) ∷ l) (λ few small. (clash few small _ refl, λ _. later))
   where
-    clash : (grammar_of words).nonterminals ≤ max_nonterminals → (grammar_of words).terminals ≤ alphabet k → (r : Conflict) → first_clash k (grammar_of words) ≡ r
+    clash : (grammar_of words).nonterminals ≤ max_nonterminals → (grammar_of words).terminals ≤ alphabet k → (r : Conflict)
+        → first_clash k (grammar_of words) ≡ r
         → OfFault P (clash_fault k r)
     clash few small Absent e = of_none P
     clash few small (At A c) e = of_some P (conflict_error k A c) (each.conflict few small A c e)

@@ -56,8 +56,10 @@ module _ (k : Lookahead) (G : Grammar) (w : List ℕ) (scoped : WellScoped G) (f
           let low : i < G.nonterminals * n = omega (arith, r.size) in
           let inside : InRange G w x = ((div-lt_iff_lt-mul z).1 low, omega (arith, mod-lt i z)) in
           let here : get_or (all_calls G w) i x ≡ x = ap (λ j. get_or (all_calls G w) j x) (sym d) ∙ all_ordered G w x x inside in
-          let short : i < length (map (memo_word k G w) (all_calls G w)) = omega (arith, length-map (all_calls G w) (memo_word k G w), all_length G w, r.size) in
-          ap (λ j. get_or m j uncalled_code) (sym d) ∙ word_is x inside ∙ ap (memo_word k G w) (sym here) ∙ sym (get_or-map (memo_word k G w) (all_calls G w) i x)
+          let short : i < length (map (memo_word k G w) (all_calls G w)) =
+          omega (arith, length-map (all_calls G w) (memo_word k G w), all_length G w, r.size) in
+          ap (λ j. get_or m j uncalled_code) (sym d) ∙ word_is x inside ∙ ap (memo_word k G w) (sym here)
+          ∙ sym (get_or-map (memo_word k G w) (all_calls G w) i x)
           ∙ get_d_any (map (memo_word k G w) (all_calls G w)) i (memo_word k G w x) uncalled_code short
 
 -- and they are recorded: a descent records what it makes of a blank memo table

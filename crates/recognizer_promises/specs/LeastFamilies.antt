@@ -23,7 +23,7 @@ ClaimsAt k G = Claims G (tokens k) (First G (tokens k)) (Follow G (tokens k))
 
 -- no smaller than the rules ask, and no larger than any family of tests that they close; of all families it is `LeastSets` of
 -- semantics/specs/contracts/Theorems.antt, which a promise of code cannot quantify over
--- need not be believed: nullable (nullable-closed, nullable-least); First (first-closed, first-least); Follow (follow-closed, follow-least);
+-- need not be believed: nullable (nullable_closed, nullable_least); First (first_closed, first_least); Follow (follow_closed, follow_least);
 -- table_of (claimed, unclaimed)
 pub record LeastFamilies (k : Lookahead) (G : Grammar) : Type 0 where
   pub nullable_closed : null_step G (nullable G) ⊆ᵇ nullable G

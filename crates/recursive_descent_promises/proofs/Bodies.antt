@@ -105,7 +105,8 @@ body_ends (suc left) words from l = go (is_symbol (decoded (get_or words from 0)
     start : Skipped words from from
     start = skipped_none words from (omega arith)
 
-    go : (b : Bool) → is_symbol (decoded (get_or words from 0)) ≡ b → BodyEnd words (from + 1) (body_end words (from + 1)) → BodyEnd words from (body_end words from)
+    go : (b : Bool) → is_symbol (decoded (get_or words from 0)) ≡ b → BodyEnd words (from + 1) (body_end words (from + 1))
+        → BodyEnd words from (body_end words from)
     go true e r =
         rw (body_on words from here e)
         (record { skipped = skipped_on (skipped_symbol start here (tested_symbol (decoded (get_or words from 0)) e).1) r.skipped; boundary = r.boundary })

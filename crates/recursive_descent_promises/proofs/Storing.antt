@@ -86,7 +86,8 @@ module _ {choice : Choice} {words choices tokens input memo : List ℕ} {A place
     index_low = let l = index_range (grammar_of words) input (call_at A place) (g.named, g.placed) in omega (arith, index_is, g.given.sound.size)
 
     entry_is : entry input memo (call_at A place) ≡ get_or memo x 0
-    entry_is = get_d_any memo (memo_index input (call_at A place)) uncalled_code 0 (omega (arith, index_low, index_is)) ∙ ap (λ i. get_or memo i 0) (sym index_is)
+    entry_is = get_d_any memo (memo_index input (call_at A place)) uncalled_code 0 (omega (arith, index_low, index_is))
+        ∙ ap (λ i. get_or memo i 0) (sym index_is)
 
     -- an entry that is written is returned
     pub call_known : (get_or memo x 0 ≡ uncalled_code → ⊥) → CallDone choice words input memo A place (get_or memo x 0) memo

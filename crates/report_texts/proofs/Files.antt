@@ -33,7 +33,8 @@ use Rattle.sheet_text.specs.Room.{sheet_room}
 use Rattle.gaps_text_promises.specs.inner.Gaps.{GapsPut}
 use Rattle.gaps_text_promises.proofs.Lengths.{gaps_most}
 use Rattle.gaps_text_promises.proofs.Overlaps.{lines_tell}
-use Rattle.report_texts.specs.Texts.{blank_table, checked_text, sheet_of, blank_memo, judged_answer, judged_table, judged_memo, judged_text, judgement_of, gaps_of}
+use Rattle.report_texts.specs.Texts.{blank_table, checked_text, sheet_of, blank_memo, judged_answer, judged_table, judged_memo, judged_text, judgement_of}
+use Rattle.report_texts.specs.Texts.{gaps_of}
 use Rattle.report_texts.specs.Report.{Printed, JudgementPrinted, GapsPrinted}
 use Rattle.report_texts.proofs.Lengths.{checked_short, judged_short}
 

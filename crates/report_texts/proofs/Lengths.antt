@@ -134,7 +134,8 @@ judged_short words input = go (judge_fault One max_table_words max_memo_entries 
 
     go : (f : Option Error) → judge_fault One max_table_words max_memo_entries words input ≡ f → length (text f) ≤ judgement_room
     go (some x) e = omega (arith, refusal_most x)
-    go none e = verdict (accepts (grammar_of words) (table_choice (grammar_of words) 1 input) input) (calls_short words input max_table_words max_memo_entries e)
+    go none e = verdict (accepts (grammar_of words) (table_choice (grammar_of words) 1 input) input)
+        (calls_short words input max_table_words max_memo_entries e)
       where
         made : List ℕ
         made = calls_text (grammar_of words).nonterminals (length input) (lent_back none (memo_words One (grammar_of words) input) blank_memo)

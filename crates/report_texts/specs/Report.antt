@@ -15,7 +15,8 @@ use Rattle.judgement_text.specs.Room.{judgement_room}
 use Rattle.gaps_text_promises.specs.Room.{gaps_room}
 use Rattle.sheet_lines.specs.Lines.{sheet_word_at}
 use Rattle.gaps_text_promises.specs.Gaps.{LinesTell}
-use Rattle.report_texts.specs.Texts.{blank_table, checked_table, sheet_of, blank_memo, judged_answer, judged_table, judged_memo, judgement_of, gaps_of, enough_read}
+use Rattle.report_texts.specs.Texts.{blank_table, checked_table, sheet_of, blank_memo, judged_answer, judged_table, judged_memo, judgement_of, gaps_of}
+use Rattle.report_texts.specs.Texts.{enough_read}
 
 -- a text put from the buffer's front on, of which so many bytes stand there: all of them where the buffer has the room
 pub record Printed (room : ℕ) (text before after : List ℕ) (n : ℕ) : Type 0 where

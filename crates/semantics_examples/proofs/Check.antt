@@ -49,7 +49,11 @@ terminals_test n (Nonterminal A ∷ b) = terminals_test n b
 terminals_test_sound : (n : ℕ) (b : Body) → T (terminals_test n b) → TerminalsBelow n b
 unfolding terminals_test
 terminals_test_sound n [] t = tt
-terminals_test_sound n (Terminal a ∷ b) t = (ltb→lt a n (and_l (ltb a n) (terminals_test n b) t), terminals_test_sound n b (and_r (ltb a n) (terminals_test n b) t))
+terminals_test_sound n (Terminal a ∷ b) t = (
+  ltb→lt a n (and_l (ltb a n) (terminals_test n b) t),
+  terminals_test_sound n b
+      (and_r (ltb a n) (terminals_test n b) t),
+)
 terminals_test_sound n (Nonterminal A ∷ b) t = terminals_test_sound n b t
 
 unfoldable pub own_test : Grammar → Bool

@@ -3,7 +3,8 @@ use mathlib.Core.List.{flat_map}
 use Rattle.base.specs.Quantifiers.{any_of, all_of, any_below, lowest}
 use Rattle.base.specs.FiniteSets.{member, keep, distinct, numbers_from, numbers_below, combine}
 use Rattle.base.specs.Rounds.{round, settle, members, least}
-use Rattle.semantics.specs.LeftRecursion.{all_nullable, null_step, nullable, left_in, left_depends, reach_step, left_reaches, left_recursive, lowest_left_recursive}
+use Rattle.semantics.specs.LeftRecursion.{all_nullable, null_step, nullable, left_in, left_depends, reach_step, left_reaches, left_recursive}
+use Rattle.semantics.specs.LeftRecursion.{lowest_left_recursive}
 use Rattle.base.specs.Strings.{look, strings, same_string}
 use Rattle.semantics.specs.FirstFollow.{concat_strings, same_entry, entries, sets_of, first_of_symbol, first_body, first_rule, first_step}
 use Rattle.semantics.specs.FirstFollow.{first, first_sets, behind, follow_step, follow, follow_sets}
@@ -14,7 +15,8 @@ use Rattle.semantics.specs.ComesTo.{when, body_comes_to, negatives_come_to, posi
 use Rattle.semantics.specs.Calls.{calls_within, all_calls, calls, call_count, greatest_place, farthest}
 
 unfoldable pub tables_compute : Unit {0}
-unfolding any_of all_of member keep distinct numbers_from numbers_below combine round settle members least strings same_string concat_strings same_entry entries sets_of
+unfolding any_of all_of member keep distinct numbers_from numbers_below combine round settle members least strings same_string concat_strings same_entry
+    entries sets_of
     first_of_symbol first_body first_rule first_step first first_sets behind follow_step follow follow_sets several position meeting claimed
     claims overruns clashes table_of every_ends
 tables_compute = tt

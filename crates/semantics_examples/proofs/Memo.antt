@@ -67,7 +67,8 @@ unfolding rule_comes_to positives_come_to negatives_come_to when body_comes_to r
 first = refl
 
 -- a negative body that fails or ends elsewhere does not stop the rule; one that ends there does
-negatives : rule_comes_to given (0 ∷ 0 ∷ []) 2 (only 1 ∷ []) (only 4 ∷ only 3 ∷ only 2 ∷ only 1 ∷ []) 0 ≡ call_at 1 0 ∷ call_at 4 0 ∷ call_at 3 0 ∷ call_at 2 0 ∷ []
+negatives : rule_comes_to given (0 ∷ 0 ∷ []) 2 (only 1 ∷ []) (only 4 ∷ only 3 ∷ only 2 ∷ only 1 ∷ []) 0 ≡ call_at 1 0 ∷ call_at 4 0 ∷ call_at 3 0 ∷ call_at 2 0
+    ∷ []
 unfolding rule_comes_to positives_come_to negatives_come_to when body_comes_to run read
 negatives = refl
 

@@ -59,7 +59,8 @@ module _ {R : Rows} {heads sets : List ℕ} (q : ℕ) {rules before table table'
   head = get_or heads q 0
 
   own_row : (c : ℕ) → c < R.columns
-      → get_or table' (entry_index R head c) 0 ≡ entry_over q (get_or before (entry_index R head c) 0) (position (claimant heads sets head (R.element c)) (q ∷ rules))
+      → get_or table' (entry_index R head c) 0 ≡ entry_over q (get_or before (entry_index R head c) 0)
+      (position (claimant heads sets head (R.element c)) (q ∷ rules))
   own_row c h = (rw (← claimant_own heads sets (R.element c) q) at (w.inside c h)) ∙ go (p q) refl
     where
       p : ℕ → Bool
@@ -80,11 +81,13 @@ module _ {R : Rows} {heads sets : List ℕ} (q : ℕ) {rules before table table'
   }
     where
       at_row : (A c : ℕ) → A < R.rows → c < R.columns → Dec (A ≡ head)
-          → get_or table' (entry_index R A c) 0 ≡ entry_over q (get_or before (entry_index R A c) 0) (position (claimant heads sets A (R.element c)) (q ∷ rules))
+          → get_or table' (entry_index R A c) 0 ≡ entry_over q (get_or before (entry_index R A c) 0)
+          (position (claimant heads sets A (R.element c)) (q ∷ rules))
       at_row A c a h (yes e) = rw e (own_row c h)
       at_row A c a h (no ne) =
           w.outside (entry_index R A c) (other_row A head c R.columns h ne) ∙ f.entries A c a h
-          ∙ position_later (claimant heads sets A (R.element c)) q rules q (get_or before (entry_index R A c) 0) (claimant_other heads sets A (R.element c) q ne)
+          ∙ position_later (claimant heads sets A (R.element c)) q rules q (get_or before (entry_index R A c) 0)
+          (claimant_other heads sets A (R.element c) q ne)
 
 -- a rule's row is in the array
 pub row_room : {k : Lookahead} {z : Sizes} {heads : List ℕ} → RowsGiven k z heads → (q : ℕ) → q < z.rules

@@ -46,4 +46,5 @@ pub overrun_column : (k : Lookahead) (b : Bool) (t c : ℕ) → t ≤ alphabet k
     → has (overrun_set k b) (column_element k t c) ≡ (b && same_string (0 ∷ []) (column_string k t c))
 overrun_column k b t c few h =
     has_choose b (terminal k 0) (column_element k t c)
-    ∙ ap (λ x. b && x) (has_terminal k 0 (column_element k t c) ∙ first_terminal k (column_element k t c) ∙ ap (same_string (0 ∷ [])) (column_string_lem k t c few h))
+    ∙ ap (λ x. b && x) (has_terminal k 0 (column_element k t c) ∙ first_terminal k (column_element k t c)
+    ∙ ap (same_string (0 ∷ [])) (column_string_lem k t c few h))

@@ -58,7 +58,8 @@ word_start chart start end = refl
 pub word_more : (chart : List ℕ) (start end k word r : ℕ) (t : Bool) → k < max_nonterminals → word ≡ found_word chart k start end
     → t ≡ has_place (get_or chart (slot k end) 0) start → r ≡ with_nonterminal word k t → r ≡ found_word chart (k + 1) start end
 unfolding found_word
-word_more chart start end k word r t l h e f = total_more (λ A. has_place (get_or chart (slot A end) 0) start) k word r t h e (with_nonterminal_lem word k t l f)
+word_more chart start end k word r t l h e f = total_more (λ A. has_place (get_or chart (slot A end) 0) start) k word r t h e
+    (with_nonterminal_lem word k t l f)
 
 -- beyond the limits there is none
 pub word_of_many : (chart : List ℕ) (N start end : ℕ) → max_nonterminals < N → 0 ≡ span_word chart N start end

@@ -92,7 +92,8 @@ one_more {w} {l} {l'} {i} {r} h o t g e = record {
       | no p ↦ rw (le-ltb k i (omega arith), le-ltb k (suc i) (omega arith))
     ]
 
-    go : (a k : ℕ) → a < max_terminals → Dec (a ≡ get_or w i 0) → Dec (k ≡ i) → has (get_or (set l (get_or w i 0) r) a 0) k ≡ (ltb k (suc i) && eqb (get_or w k 0) a)
+    go : (a k : ℕ) → a < max_terminals → Dec (a ≡ get_or w i 0) → Dec (k ≡ i)
+        → has (get_or (set l (get_or w i 0) r) a 0) k ≡ (ltb k (suc i) && eqb (get_or w k 0) a)
     go a k b (yes p) (yes q) =
         rw (p, get_or-set_same l (get_or w i 0) r 0 (omega (arith, h.long)), g.is k, eq-eqb k i q, lt-ltb k (suc i) (omega arith), or-true)
         (sym (eq-eqb (get_or w k 0) (get_or w i 0) (ap (λ (n : ℕ). get_or w n 0) q)))

@@ -247,7 +247,8 @@ module _ {words starts : List ℕ} {z : Sizes} {q start end : ℕ} (g : AskGiven
 
 -- what is found by asking a rule
 module _ (words starts : List ℕ) (rules q : ℕ) (stands chart : List ℕ) (start end found : ℕ) {to : ℕ} (n : to ≡ rule_end words starts rules q) where
-  not_kept : false ≡ keeps_by words (get_or starts (q % max_rules) 0) to stands chart start end → found ≡ asked_by words starts rules q stands chart start end found
+  not_kept : false ≡ keeps_by words (get_or starts (q % max_rules) 0) to stands chart start end
+      → found ≡ asked_by words starts rules q stands chart start end found
   unfolding with_nonterminal
   not_kept k = rw (← n, ← k) (by_known (has found (head_at words (get_or starts (q % max_rules) 0))))
     where
@@ -291,7 +292,8 @@ module _ {words starts : List ℕ} {z : Sizes} {q start end : ℕ} (g : AskGiven
   pub asked_right : {r : ℕ} → r ≡ asked_by words starts z.rules q stands chart start end found → Asked words q stands chart start end found r
   asked_right e =
       let low : q < max_rules = omega (arith, g.numbered, (well_read words z g.rules.read).few_rules) in
-      by_known (has found (head_at words from)) refl (e ∙ ap (λ (i : ℕ). asked_from words (get_or starts i 0) to stands chart start end found) (mod-eq_of_lt low))
+      by_known (has found (head_at words from)) refl (e ∙ ap (λ (i : ℕ). asked_from words (get_or starts i 0) to stands chart start end found)
+      (mod-eq_of_lt low))
 
 -- of the rules from number i on, those of the rank have been asked
 pub record Asking (words : List ℕ) (n r : ℕ) (stands chart : List ℕ) (start end found i : ℕ) : Type 0 where

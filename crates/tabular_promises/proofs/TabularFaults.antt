@@ -33,7 +33,8 @@ module _ (words input before : List ℕ) where
 
   module _ (room : max_span_words ≤ length before) where
     pub fault_long : {f : Option Error} → sets_fault One words ≡ f → judged
-        ≡ first_fault (f ∷ fault_if (ltb max_tabular_tokens (length input)) InputTooLong ∷ unknown_fault (unknown_from (grammar_of words).terminals 0 input) ∷ [])
+        ≡ first_fault (f ∷ fault_if (ltb max_tabular_tokens (length input)) InputTooLong ∷ unknown_fault (unknown_from (grammar_of words).terminals 0 input)
+        ∷ [])
     unfolding tabular_fault sets_fault
     fault_long e =
         first_nested (fault_if (ltb (length before) max_span_words) SpansTooShort ∷ []) (sets_faults One words)

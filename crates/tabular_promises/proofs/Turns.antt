@@ -147,12 +147,14 @@ module _ {words starts lasts befores chart : List ℕ} {z : Sizes} (g : FillingG
             → (A < (grammar_of words).nonterminals) × (k ≤ m) × (m ≤ length w) × (turn k m (rank (grammar_of words) A) < turn start end (r + 1))
         later A k m a b t = let c = f.only A k m a b t in (c.0, c.1, c.2, omega (arith, c.3))
 
-        only : (A k m : ℕ) → A < max_nonterminals → m < max_tabular_places → T (charted chart₂ A k m) → Dec (A < z.nonterminals) → Dec (k ≡ start) → Dec (m ≡ end)
+        only : (A k m : ℕ) → A < max_nonterminals → m < max_tabular_places → T (charted chart₂ A k m) → Dec (A < z.nonterminals) → Dec (k ≡ start)
+            → Dec (m ≡ end)
             → (A < (grammar_of words).nonterminals) × (k ≤ m) × (m ≤ length w) × (turn k m (rank (grammar_of words) A) < turn start end (r + 1))
         only A k m a b t (yes i) (yes p) (yes q) = rw (p, q) (go (or_cases (charted chart₁ A start end) (has found A) (rw (p, q, n.here A i) at t)))
           where
             go : T (charted chart₁ A start end) ⊎ T (has found A)
-                → (A < (grammar_of words).nonterminals) × (start ≤ end) × (end ≤ length w) × (turn start end (rank (grammar_of words) A) < turn start end (r + 1))
+                → (A < (grammar_of words).nonterminals) × (start ≤ end) × (end ≤ length w)
+                × (turn start end (rank (grammar_of words) A) < turn start end (r + 1))
             go (inl c) = later A start end a s.short c
             go (inr c) = (omega (arith, counted), s.forward, reaches, omega (arith, told_rank A c))
         only A k m a b t (yes i) (yes p) (no q) = later A k m a b (rw (n.others A k m a b (λ _ _ e. q e)) at t)

@@ -1,7 +1,6 @@
 -- What is below a call that ends: calls that the descent makes and that end too, of a lower measure.
 use mathlib.Core.Bool.{true, ◌&&◌}
-use mathlib.Core.List.{List, [], ◌∷◌, Memᴰ}
-use mathlib.Core.List.{flat_map}
+use mathlib.Core.List.{List, [], ◌∷◌, Memᴰ, flat_map}
 use mathlib.Core.Logic.{inl, inr}
 use mathlib.Core.Path.{◌≡◌, refl}
 use Prim.Native.Nat.{ℕ, suc, ◌<◌}

@@ -9,8 +9,8 @@ use Rattle.semantics.specs.Choices.{table_choice}
 use Rattle.semantics_examples.proofs.Computing.{tables_compute, descent_computes, calls_compute}
 use Rattle.semantics_examples.proofs.Tables.{others}
 use Rattle.tree.specs.ParseTrees.{Vertex, Node, Leaf, Inner, vertex, leaves}
-use Rattle.tree.specs.Writing.{vertex_at, body_nodes, conjunct_nodes, rule_nodes, descendants_of, rule_calls, below, each, visit, tree_calls, tree_of, vertex_word}
-use Rattle.tree.specs.Writing.{tree_words}
+use Rattle.tree.specs.Writing.{vertex_at, body_nodes, conjunct_nodes, rule_nodes, descendants_of, rule_calls, below, each, visit, tree_calls, tree_of}
+use Rattle.tree.specs.Writing.{vertex_word, tree_words}
 
 -- by one token of lookahead
 abbrev words_of : Grammar → List ℕ → List ℕ

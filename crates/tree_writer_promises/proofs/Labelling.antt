@@ -2,7 +2,6 @@
 use mathlib.Core.Path.{◌≡◌, refl, sym, ap, ◌∙◌}
 use mathlib.Core.Bool.{Bool, true, false}
 use mathlib.Core.List.{List}
-use denote.Enum.Declared.{tag_of}
 use Prim.Native.Nat.{ℕ, ◌+◌, ◌*◌, ◌/◌, ◌%◌, ◌≤◌, ◌<◌, min}
 use native.Mathlib.Decide.{ℕ_discrete, dec_lt}
 use native.Mathlib.Omega.{arith}
@@ -16,7 +15,6 @@ use Rattle.grammar.specs.Limits.{max_nonterminals, max_tokens, max_places, max_m
 use Rattle.grammar.specs.declared.reading.Sizes.{Sizes}
 use Rattle.grammar.specs.declared.reading.Reading.{Reading}
 use Rattle.grammar.specs.declared.reading.Reading.TheVariants.{Read, Faulty}
-use Rattle.grammar.specs.contracts.reading.Reading.{the_type}
 use Rattle.event.specs.Events.{input_of}
 use Rattle.event.proofs.Inputs.{input_length}
 use Rattle.lookahead.specs.declared.Lookahead.TheVariants.{One}
@@ -24,8 +22,7 @@ use Rattle.columns.specs.inner.Columns.{column_at}
 use Rattle.descent_arrays.proofs.Listing.{listed_by}
 use Rattle.tree.specs.ParseTrees.{vertex}
 use Rattle.tree.specs.Writing.{vertex_word}
-use Rattle.tree_writer_promises.specs.inner.Labels.{label_rule, label_word, label_of, label_at, labels_of, labels_read}
-use Rattle.tree_writer_promises.specs.inner.Labels.{LabelsGiven, LabelledBelow, Labelled}
+use Rattle.tree_writer_promises.specs.inner.Labels.{label_rule, label_word, label_of, label_at, labels_of, labels_read, LabelsGiven, LabelledBelow, Labelled}
 
 -- the word for a call
 module _ (z : Sizes) (events table memo : List ℕ) (A i : ℕ) where
@@ -134,9 +131,9 @@ module _ (input table memo : List ℕ) {o o' : Reading} (e : o ≡ o') where
   pub labels_read_lem : {z : Sizes} {labels : List ℕ} → o ≡ Read z → labels ≡ labels_of z input table memo → labels ≡ labels_read o' input table memo
   labels_read_lem q l = l ∙ ap (λ x. labels_read x input table memo) (sym q ∙ e)
 
-  pub labels_faulty : tag_of the_type o ≡ 1 → replicate max_memo_entries 0 ≡ labels_read o' input table memo
+  pub labels_faulty : ((z : Sizes) → o ≡ Read z → ⊥) → replicate max_memo_entries 0 ≡ labels_read o' input table memo
   labels_faulty t = go o t ∙ ap (λ x. labels_read x input table memo) e
     where
-      go : (x : Reading) → tag_of the_type x ≡ 1 → replicate max_memo_entries 0 ≡ labels_read x input table memo
-      go (Read z) t = absurd (omega arith)
+      go : (x : Reading) → ((z : Sizes) → x ≡ Read z → ⊥) → replicate max_memo_entries 0 ≡ labels_read x input table memo
+      go (Read z) t = absurd (t z refl)
       go (Faulty f) t = refl

@@ -128,7 +128,8 @@ module _ {words input table memo tree : List ℕ} (g : TreeGiven words input tab
       the_words : words_of words input ≡ map (vertex_word_at words input) (tree_calls G (choice_of words input) input)
       unfolding tree_words tree_of vertex_word_at
       the_words = rw (T_true (accepts G (choice_of words input) input) g.accepted.accepted)
-          (map_twice (vertex_word_at words input) (vertex_at G (choice_of words input) input) vertex_word (λ x. refl) (tree_calls G (choice_of words input) input))
+          (map_twice (vertex_word_at words input) (vertex_at G (choice_of words input) input) vertex_word (λ x. refl)
+          (tree_calls G (choice_of words input) input))
 
       counted : n ≡ length (words_of words input)
       counted = last.count ∙ sym (ap length the_words ∙ length-map (tree_calls G (choice_of words input) input) (vertex_word_at words input))

@@ -143,7 +143,8 @@ module _ (words input table memo : List ℕ) (room : ℕ) where
   pub short_table : length table < max_table_words → JudgesWithRoom words input table memo room (Refused TableTooShort) table memo
   short_table h = refused_judged (first_table h) (λ _. table_short One words input table memo h)
 
-  pub short_memo : max_table_words ≤ length table → length memo < max_memo_entries → JudgesWithRoom words input table memo room (Refused MemoTooShort) table memo
+  pub short_memo : max_table_words ≤ length table → length memo < max_memo_entries
+      → JudgesWithRoom words input table memo room (Refused MemoTooShort) table memo
   short_memo long h = refused_judged (first_memo long h) (λ _. memo_short One words input table memo long h)
 
   pub short_tree : max_table_words ≤ length table → max_memo_entries ≤ length memo → room < max_memo_entries
@@ -164,7 +165,8 @@ module _ {words input table memo : List ℕ} (tree : List ℕ) {a : Answer} {tab
   fault = tree_fault (length table) (length memo) (length tree) words input
 
   -- the promise from the words that are written
-  shows : {n : ℕ} {tree' : List ℕ} → n ≡ written_or fault (length (words_of words input)) → tree' ≡ lent_back fault (words_of words input) tree → n ≤ max_memo_entries
+  shows : {n : ℕ} {tree' : List ℕ} → n ≡ written_or fault (length (words_of words input)) → tree' ≡ lent_back fault (words_of words input) tree
+      → n ≤ max_memo_entries
       → (a ≡ Accepted (calls_of One G input) → TreeTold words input)
       → Shows words input table memo tree (record { answer = a; written = n }) table' memo' tree'
   shows w l f t = record {

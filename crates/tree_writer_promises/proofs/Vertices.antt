@@ -33,7 +33,7 @@ use Rattle.grammar.proofs.WellFormed.{RestFits, reads}
 use Rattle.base.specs.Choice.{choose}
 use Rattle.base.specs.FiniteSets.{member}
 use Rattle.semantics.specs.Valuations.{Valuation, Solves, solution}
-use Rattle.semantics.specs.Descent.{Outcomes, End, descend, accepts}
+use Rattle.semantics.specs.Descent.{Outcomes, descend, accepts}
 use Rattle.semantics.specs.ComesTo.{Call, call_at, InRange, body_comes_to}
 use Rattle.semantics.specs.inner.ComesTo.{measure}
 use Rattle.semantics.specs.Calls.{same_call}

@@ -88,7 +88,8 @@ tables : (table_words One grammar_r ≡ 16777217 ∷ 16777216 ∷ 0 ∷ 1 ∷ []
     ≡ 16777219 ∷ 16777216 ∷ 16777217 ∷ 16777218 ∷ 16777217 ∷ 16777222 ∷ 16777220 ∷ 16777216 ∷ 16777218 ∷ 16777220
     ∷ 0 ∷ 0 ∷ no_entry ∷ 0 ∷ 1 ∷ 2 ∷ no_entry ∷ 2 ∷ 3 ∷ 4 ∷ 4 ∷ 4 ∷ no_entry ∷ no_entry ∷ 5 ∷ 6 ∷ no_entry ∷ 7 ∷ 8 ∷ 8 ∷ []
     )
-    × (table_words One grammar_e ≡ 3 ∷ 16777216 ∷ 3 ∷ 2 ∷ 3 ∷ 2 ∷ 16777216 ∷ 2 ∷ 0 ∷ 0 ∷ no_entry ∷ 1 ∷ 1 ∷ no_entry ∷ 2 ∷ 3 ∷ no_entry ∷ no_entry ∷ 4 ∷ no_entry ∷ [])
+    × (table_words One grammar_e ≡ 3 ∷ 16777216 ∷ 3 ∷ 2 ∷ 3 ∷ 2 ∷ 16777216 ∷ 2 ∷ 0 ∷ 0 ∷ no_entry ∷ 1 ∷ 1 ∷ no_entry ∷ 2 ∷ 3 ∷ no_entry ∷ no_entry ∷ 4
+    ∷ no_entry ∷ [])
 unfolding tables_compute listed total_weight string_of set_number row_word entry_at column_string table_of
 tables = (
   words_by_lem grammar_r firsts.0 follows.0 ∙ refl,

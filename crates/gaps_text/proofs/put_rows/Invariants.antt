@@ -6,7 +6,8 @@ use Rattle.gaps_text.proofs.put_rows.Given as goal
 
 abbrev pub invariant-loop-nonterminal : goal.invariant-loop-nonterminal
 invariant-loop-nonterminal l =
-    (l.nonterminal ≤ l.nonterminals) × Put l.initial.out l.at (up_to l.nonterminal (row_text l.sizes (claimant_at l.heads l.sets l.sizes.terminals))) l.out l.next
+    (l.nonterminal ≤ l.nonterminals) × Put l.initial.out l.at
+    (up_to l.nonterminal (row_text l.sizes (claimant_at l.heads l.sets l.sizes.terminals))) l.out l.next
 
 abbrev pub decreases-loop-nonterminal : goal.decreases-loop-nonterminal
 decreases-loop-nonterminal l = l.nonterminals - l.nonterminal

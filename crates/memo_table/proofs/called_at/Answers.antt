@@ -1,5 +1,4 @@
 -- None of the nonterminals passed was called there.
-use mathlib.Core.Bool.{false}
 use native.Mathlib.Omega.{arith}
 use Rattle.memo_table.proofs.Tallying.{called_here, called_not, called_none}
 use Rattle.memo_table.proofs.called_at.Goals as goal

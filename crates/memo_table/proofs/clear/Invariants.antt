@@ -7,7 +7,8 @@ use Rattle.grammar.specs.Codes.{uncalled_code}
 use Rattle.memo_table.proofs.clear.Given as goal
 
 abbrev pub invariant-loop-at : goal.invariant-loop-at
-invariant-loop-at l = (l.at ≤ length l.initial.memo) × ((length l.memo ≡ length l.initial.memo) × (l.memo ≡ replicate l.at uncalled_code ++ drop l.at l.initial.memo))
+invariant-loop-at l = (l.at ≤ length l.initial.memo) × ((length l.memo ≡ length l.initial.memo)
+    × (l.memo ≡ replicate l.at uncalled_code ++ drop l.at l.initial.memo))
 
 abbrev pub decreases-loop-at : goal.decreases-loop-at
 decreases-loop-at l = length l.memo - l.at

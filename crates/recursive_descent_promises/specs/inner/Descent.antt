@@ -108,7 +108,8 @@ CallRequires words choices tokens memo A place = (choice : Choice) × CallGiven 
 
 abbrev pub CallEnsures : (words choices tokens memo : List ℕ) (A place r : ℕ) (memo' : List ℕ) → Type 0
 CallEnsures words choices tokens memo A place r memo' =
-    (choice : Choice) → CallGiven choice words choices tokens (held_tokens tokens) memo A place → CallDone choice words (held_tokens tokens) memo A place r memo'
+    (choice : Choice) → CallGiven choice words choices tokens (held_tokens tokens) memo A place
+    → CallDone choice words (held_tokens tokens) memo A place r memo'
 
 abbrev pub RunRequires : (words choices tokens memo : List ℕ) (A from start : ℕ) → Type 0
 RunRequires words choices tokens memo A from start = (choice : Choice) × RunGiven choice words choices tokens (held_tokens tokens) memo A from start

@@ -121,7 +121,8 @@ module _ (c : Outcomes) (w : List ℕ) where
   body_asked (Nonterminal A ∷ b) i next = ap {B = List Call} (λ l. call_at A i ∷ l) (go (c A i) (λ m. body_asked b m next))
     where
       go : (o : Outcome) → ((m : ℕ) → asked c (body_plan w b m next) ≡ body_comes_to c w b m ++ asked c (next (run c w b m)))
-          → asked c (on_end o (next Failed) (λ m. body_plan w b m next)) ≡ from_end o (λ m. body_comes_to c w b m) ++ asked c (next (onward o (λ m. run c w b m)))
+          → asked c (on_end o (next Failed) (λ m. body_plan w b m next)) ≡ from_end o (λ m. body_comes_to c w b m)
+          ++ asked c (next (onward o (λ m. run c w b m)))
       go Failed h = refl
       go (End m) h = h m
 

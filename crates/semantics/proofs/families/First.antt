@@ -18,8 +18,7 @@ use Rattle.base.proofs.Booleans.{and_l, and_r, and_make}
 use Rattle.base.proofs.Quantified.{any_elim, any_make, all_elim, all_make}
 use Rattle.base.proofs.FiniteSets.{member_mem, mem_member}
 use Rattle.base.proofs.LookaheadStrings.{strings_equality}
-use Rattle.semantics.proofs.families.LookaheadSets.{sets_elim, sets_mono, concat_make, concat_elim}
-use Rattle.semantics.proofs.families.LookaheadSets.{entry_lookahead, entry_sets, entry_kept, entry_closed}
+use Rattle.semantics.proofs.families.LookaheadSets.{sets_elim, sets_mono, concat_make, concat_elim, entry_lookahead, entry_sets, entry_kept, entry_closed}
 
 -- two least families are one
 pub least_unique : (Closed : Family → Type 0) (F F' : Family) → Least Closed F → Least Closed F' → (A : ℕ) (x : List ℕ) → F A x ↔ F' A x

@@ -13,9 +13,8 @@ use Rattle.semantics.specs.Valuations.{Valuation, contains, derives, Solves}
 use Rattle.semantics.specs.LeftRecursion.{null_step, nullable, LeftDepends, LeftReaches, NoLeftRecursion, left_recursive, lowest_left_recursive, rank}
 use Rattle.base.specs.inner.Strings.{span}
 use Rattle.base.specs.Strings.{look, Over, Lookahead, strings}
-use Rattle.semantics.specs.Families.{Family, Short, FirstOf, FirstBody, Strung, Meeting, FirstClosed, FollowClosed, FollowStrung, Claims, Clash}
+use Rattle.semantics.specs.Families.{Family, Short, FirstOf, FirstBody, Strung, Meeting, FirstClosed, FollowClosed, FollowStrung, Claims, Clash, OwnTerminals}
 use Rattle.semantics.specs.inner.Families.{Least, EveryEnds}
-use Rattle.semantics.specs.Families.{OwnTerminals}
 use Rattle.semantics.specs.Productive.{Unproductive, unproductive, lowest_unproductive}
 use Rattle.semantics.specs.FirstFollow.{Entry, First, Follow}
 use Rattle.semantics.specs.Claims.{clashes, column, table_of, every_ends}

@@ -17,7 +17,8 @@ pub loop-at-preserved : goal.loop-at-preserved
 loop-at-preserved c =
     let test = c.loop-at-test.true in (
       omega (arith, test),
-      word_more _ _ _ _ _ _ _ (omega (arith, test, c.if-nonterminals-gt-NONTERMINALS.false)) c.loop-at.invariant.1 c.contains-there.ensures c.found_by-word.ensures,
+      word_more _ _ _ _ _ _ _ (omega (arith, test, c.if-nonterminals-gt-NONTERMINALS.false)) c.loop-at.invariant.1 c.contains-there.ensures
+          c.found_by-word.ensures,
     )
 
 pub returns : goal.returns

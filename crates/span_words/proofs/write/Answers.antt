@@ -1,8 +1,7 @@
 -- The loop keeps `Writing`.
 use native.Mathlib.Omega.{arith}
 use mathlib.Core.Path.{refl}
-use Rattle.tabular_promises.proofs.Writing.{count_low, writing_start, at_low, at_room, row_on, row_end, written, not_of_long, not_in_short}
-use Rattle.tabular_promises.proofs.Writing.{all_written}
+use Rattle.tabular_promises.proofs.Writing.{count_low, writing_start, at_low, at_room, row_on, row_end, written, not_of_long, not_in_short, all_written}
 use Rattle.span_words.proofs.write.Goals as goal
 
 pub returns-then-tokens-gt-TABULAR_TOKENS : goal.returns-then-tokens-gt-TABULAR_TOKENS

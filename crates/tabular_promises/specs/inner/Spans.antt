@@ -15,4 +15,5 @@ Spans n f before after = after ≡ span_words n f ++ drop (span_count n) before
 -- the words of a chart's spans; for an input that is too long, or in memory that is too short, what was there
 unfoldable pub written_spans : List ℕ → ℕ → ℕ → List ℕ → List ℕ
 written_spans chart N tokens before =
-    choose (leb tokens max_tabular_tokens && leb max_span_words (length before)) (span_words tokens (span_word chart N) ++ drop (span_count tokens) before) before
+    choose (leb tokens max_tabular_tokens && leb max_span_words (length before))
+    (span_words tokens (span_word chart N) ++ drop (span_count tokens) before) before

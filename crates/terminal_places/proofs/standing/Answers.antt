@@ -1,6 +1,5 @@
 -- The loop keeps where the tokens gone through stand.
 use mathlib.Core.Path.{ap, ◌∙◌}
-use mathlib.Core.Logic.{⊎_elim}
 use native.Mathlib.Omega.{arith}
 use Rattle.event.specs.Events.{input_of}
 use Rattle.event.proofs.Inputs.{input_length}

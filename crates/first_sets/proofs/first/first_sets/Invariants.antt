@@ -11,7 +11,8 @@ use Rattle.first_sets.proofs.first.first_sets.Given as goal
 
 abbrev pub invariant-loop-sizes : goal.invariant-loop-sizes
 invariant-loop-sizes l =
-    (length l.firsts ≡ max_nonterminals) × Below (FirstNumbersClosed l.lookahead l.sizes.terminals (parse l.words).rules) l.firsts × ByRules l.sizes.rules l.meets
+    (length l.firsts ≡ max_nonterminals) × Below (FirstNumbersClosed l.lookahead l.sizes.terminals (parse l.words).rules) l.firsts
+    × ByRules l.sizes.rules l.meets
 
 abbrev pub decreases-loop-sizes : goal.decreases-loop-sizes
 decreases-loop-sizes l = missing (full l.lookahead l.sizes.terminals) l.firsts

@@ -10,7 +10,8 @@ use Rattle.table.proofs.conflicts.first_entry.Given as goal
 abbrev pub invariant-loop-nonterminal : goal.invariant-loop-nonterminal
 invariant-loop-nonterminal l =
     (l.nonterminal ≤ l.nonterminals)
-    × (conflict_from (in_sets (column_element l.lookahead l.terminals) l.sets) (column_count l.lookahead l.terminals) l.nonterminal (l.nonterminals - l.nonterminal)
+    × (conflict_from (in_sets (column_element l.lookahead l.terminals) l.sets) (column_count l.lookahead l.terminals) l.nonterminal
+    (l.nonterminals - l.nonterminal)
     ≡ conflict_from (in_sets (column_element l.lookahead l.terminals) l.sets) (column_count l.lookahead l.terminals) 0 l.nonterminals)
 
 abbrev pub decreases-loop-nonterminal : goal.decreases-loop-nonterminal

@@ -11,7 +11,8 @@ abbrev pub invariant-loop-rule : goal.invariant-loop-rule
 invariant-loop-rule l =
     (l.columns ≡ column_count l.lookahead l.terminals)
     × (l.rule ≤ l.initial.rule)
-    × ((n : ℕ) → Headed l.heads l.initial.rule n → FilledRows (rows_of l.lookahead n l.terminals) l.heads l.sets l.rule (numbers_from l.rule (l.initial.rule - l.rule)) no_rules l.entries)
+    × ((n : ℕ) → Headed l.heads l.initial.rule n → FilledRows (rows_of l.lookahead n l.terminals) l.heads l.sets l.rule
+    (numbers_from l.rule (l.initial.rule - l.rule)) no_rules l.entries)
 
 abbrev pub decreases-loop-rule : goal.decreases-loop-rule
 decreases-loop-rule l = l.rule

@@ -1,0 +1,8 @@
+-- The answer is packed, and the state is written back.
+use Rattle.embed_promises.proofs.Keeping.{move_exported}
+use Rattle.kept_states.proofs.mark_in.Goals as goal
+
+pub returns : goal.returns
+returns c =
+    let back = c.write_back.ensures in
+    move_exported c.progress_in-progress.ensures c.mark-moved.ensures back.packs back.left

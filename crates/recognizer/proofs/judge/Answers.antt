@@ -1,0 +1,18 @@
+-- What judging answers and leaves, by the table's length, by what the descent finds and leaves, and by what is lent of the table.
+use Rattle.event.specs.Events.{input_of}
+use Rattle.lookahead.specs.declared.Lookahead.TheVariants.{One}
+use Rattle.recognizer_promises.proofs.JudgeFaults.{table_short}
+use Rattle.recognizer_promises.proofs.Judged.{judge_refused}
+use Rattle.recognizer.proofs.LentTable.{judge_lent}
+use Rattle.recognizer.proofs.judge.Goals as goal
+
+pub returns-then-table-lt-TABLE_WORDS : goal.returns-then-table-lt-TABLE_WORDS
+returns-then-table-lt-TABLE_WORDS c =
+    let given = c.args in
+    judge_refused (table_short One given.words.now (input_of given.events.now) given.table.now given.memo.now c.if-table-lt-TABLE_WORDS.true)
+
+pub returns : goal.returns
+returns c =
+    let given = c.args in
+    judge_lent One given.words.now given.events.now given.table.now given.memo.now c.if-table-lt-TABLE_WORDS.false c.descend_words-found.ensures
+    c.lend.ensures c.answer.ensures
