@@ -12,6 +12,7 @@ pub enum Outcome {
     End(u16),
 }
 
+#[tactic(auto, unfolding(semantics::specs::inner::Memo::decode))]
 pub fn recall(entry: u16) -> Outcome
     ensures { meant result ≡ decode entry }
 {
