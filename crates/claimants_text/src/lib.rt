@@ -98,6 +98,7 @@ fn put_numbers(
 }
 
 // The same, or a dash where their number is 0.
+#[tactic(auto, unfolding(gaps_text_promises::specs::inner::Steps::claimants_text))]
 fn put_claimants(
     out: &mut [u8],
     at: usize,
@@ -135,6 +136,7 @@ fn at_most_all(rules: usize) -> usize
 }
 
 // The line of an entry, unless just one rule claims it.
+#[tactic(auto, unfolding(gaps_text_promises::specs::inner::Steps::entry_line))]
 pub fn put_entry(
     out: &mut [u8],
     at: usize,

@@ -70,6 +70,7 @@ fn put_rows<'a>(
 }
 
 // The line of a nonterminal, unless the set that is reported of it is empty: it does not overrun.
+#[tactic(auto, unfolding(gaps_text_promises::specs::inner::Steps::overrun_line))]
 fn put_overrun(out: &mut [u8], at: usize, told: LookaheadSet, nonterminal: u32) -> usize
     ensures { Put out.old at (overrun_line (overruns_by told.bits) nonterminal) out.new result }
 {

@@ -16,6 +16,7 @@ pub fn nonterminals(finding: Finding) -> u32
 }
 
 // How many tokens an input has that is not too long: as many as there are events.
+#[tactic(auto, unfolding(crate::specs::inner::Sizes::token_count))]
 pub fn tokens(events: &[u8]) -> u16
     ensures { result ≡ token_count events.now }
 {
