@@ -9,6 +9,7 @@ use grammar::limits::{MEMO_ENTRIES, TABLE_WORDS};
 use recognizer::judge;
 
 // Judges a log as `judge` does, unless there are too few words for its tree. The lengths that judging refuses come first.
+#[tactic(auto, unfolding(tree_writer_promises::specs::Properties::tree_fault))]
 pub fn judge_with_room(
     words: &[u32],
     events: &[u8],

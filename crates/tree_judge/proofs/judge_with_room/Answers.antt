@@ -1,6 +1,7 @@
 -- The lengths are looked at one after the other; then it is judged.
+use native.Mathlib.Omega.{arith}
 use Rattle.event.specs.Events.{input_of}
-use Rattle.tree_writer_promises.proofs.Showing.{short_table, short_memo, short_tree, judged_with_room}
+use Rattle.tree_writer_promises.proofs.Showing.{short_table, short_memo, judged_with_room}
 use Rattle.tree_judge.proofs.judge_with_room.Goals as goal
 
 pub returns-then-table-lt-TABLE_WORDS : goal.returns-then-table-lt-TABLE_WORDS
@@ -14,14 +15,8 @@ returns-then-memo-lt-MEMO_ENTRIES c =
     short_memo given.words.now (input_of given.events.now) given.table.now given.memo.now given.room c.if-table-lt-TABLE_WORDS.false
     c.if-memo-lt-MEMO_ENTRIES.true
 
-pub returns-then-room-lt-MEMO_ENTRIES : goal.returns-then-room-lt-MEMO_ENTRIES
-returns-then-room-lt-MEMO_ENTRIES c =
-    let given = c.args in
-    short_tree given.words.now (input_of given.events.now) given.table.now given.memo.now given.room c.if-table-lt-TABLE_WORDS.false
-    c.if-memo-lt-MEMO_ENTRIES.false c.if-room-lt-MEMO_ENTRIES.true
-
 pub returns : goal.returns
 returns c =
     let given = c.args in
     judged_with_room given.words.now (input_of given.events.now) given.table.now given.memo.now given.room c.if-table-lt-TABLE_WORDS.false
-    c.if-memo-lt-MEMO_ENTRIES.false c.if-room-lt-MEMO_ENTRIES.false c.judge.ensures
+    c.if-memo-lt-MEMO_ENTRIES.false (omega arith) c.judge.ensures
