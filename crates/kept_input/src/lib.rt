@@ -86,7 +86,7 @@ impl KeptInput {
 }
 
 // Adds an event where the events stand, and writes no other.
-#[tactic(auto, using(kept_marks::proofs::Holding::held_length), unfolding(kept_steps::specs::Histories::step_fault, kept_steps::specs::Histories::after_step, kept_marks::specs::Stored::progress_of))]
+#[tactic(auto, unfolding(kept_steps::specs::Histories::step_fault, kept_steps::specs::Histories::after_step, kept_marks::specs::Stored::progress_of))]
 pub fn add_event(events: &mut [u8; TOKENS], progress: Progress, event: u8) -> Moved
     ensures { Adds event events.old progress events.new result }
 {
