@@ -1,5 +1,6 @@
 -- Which words begin the encoding of a grammar that fits two tokens of lookahead: those that begin an encoding, with few terminals, and before the first
 -- negative of a rule without positives.
+use Rattle.std.specs.Prelude.{None, Option, Some}
 use mathlib.Core.Path.{◌≡◌, refl, sym, ap, ◌∙◌}
 use mathlib.Core.Bool.{Bool, true, false, ◌&&◌}
 use mathlib.Core.List.{List, [], ◌∷◌, ◌++◌, append_assoc}
@@ -26,54 +27,52 @@ use Rattle.encoding.proofs.Completing.{completed}
 use Rattle.encoding.proofs.OneDiagnosis.{shorter}
 use Rattle.lookahead.specs.declared.Lookahead.{Lookahead}
 use Rattle.lookahead.specs.declared.Lookahead.TheVariants.{One, Two}
-use Rattle.admission.specs.declared.Alone.{Alone}
-use Rattle.admission.specs.declared.Alone.TheVariants.{Absent, At}
 use Rattle.admission.specs.Admission.{Fits, begins_negative, alone_from, first_alone}
 use Rattle.admission.specs.Diagnosis.{BeginsEncodingBy}
 use Rattle.admission.proofs.WithoutPositives.{Positives, alone_among}
 use Rattle.admission.proofs.Admitted.{no_terminals, none_alone_positives, positives_none_alone}
 
-pub absent_at : (a : ℕ) → Absent ≡ At a → ⊥
+pub absent_at : (a : ℕ) → None ≡ Some a → ⊥
 absent_at a e = let n : ◌≡◌ {A = ℕ} 0 1 = cc in omega arith
 
 -- what is found stands behind where the search begins
-pub alone_from_lem : (opened : Bool) (at : ℕ) (ws : List ℕ) (a : ℕ) → alone_from opened at ws ≡ At a → at ≤ a
+pub alone_from_lem : (opened : Bool) (at : ℕ) (ws : List ℕ) (a : ℕ) → alone_from opened at ws ≡ Some a → at ≤ a
 unfolding alone_from
 alone_from_lem opened at [] a e = absurd (absent_at a e)
 alone_from_lem opened at (w ∷ ws) a e = go (opened && begins_negative (decoded w)) (alone_from_lem (begins_rule (decoded w)) (suc at) ws a) e
   where
-    go : (b : Bool) → (alone_from (begins_rule (decoded w)) (suc at) ws ≡ At a → suc at ≤ a)
-        → choose b (At at) (alone_from (begins_rule (decoded w)) (suc at) ws) ≡ At a → at ≤ a
+    go : (b : Bool) → (alone_from (begins_rule (decoded w)) (suc at) ws ≡ Some a → suc at ≤ a)
+        → choose b (Some at) (alone_from (begins_rule (decoded w)) (suc at) ws) ≡ Some a → at ≤ a
     go true later q = let n : a ≡ at = cc in omega (arith, n)
     go false later q = omega (arith, later q)
 
-pub alone_behind_heading : (words : List ℕ) (a : ℕ) → first_alone words ≡ At a → 0 < a
+pub alone_behind_heading : (words : List ℕ) (a : ℕ) → first_alone words ≡ Some a → 0 < a
 unfolding alone_from
 alone_behind_heading [] a e = absurd (absent_at a e)
 alone_behind_heading (w ∷ ws) a e = alone_from_lem (begins_rule (decoded w)) 1 ws a e
 
 -- what is found among the first words is found whatever follows them
-alone_shared : (opened : Bool) (at : ℕ) (p us vs : List ℕ) (a : ℕ) → alone_from opened at (p ++ us) ≡ At a → a < at + length p
-    → alone_from opened at (p ++ vs) ≡ At a
+alone_shared : (opened : Bool) (at : ℕ) (p us vs : List ℕ) (a : ℕ) → alone_from opened at (p ++ us) ≡ Some a → a < at + length p
+    → alone_from opened at (p ++ vs) ≡ Some a
 unfolding alone_from
 alone_shared opened at [] us vs a e l = absurd (omega (arith, alone_from_lem opened at us a e))
 alone_shared opened at (w ∷ p) us vs a e l =
     go (opened && begins_negative (decoded w)) (λ q. alone_shared (begins_rule (decoded w)) (suc at) p us vs a q (omega (arith, l))) e
   where
-    next : List ℕ → Alone
+    next : List ℕ → Option ℕ
     next ws = alone_from (begins_rule (decoded w)) (suc at) (p ++ ws)
 
-    go : (b : Bool) → (next us ≡ At a → next vs ≡ At a) → choose b (At at) (next us) ≡ At a → choose b (At at) (next vs) ≡ At a
+    go : (b : Bool) → (next us ≡ Some a → next vs ≡ Some a) → choose b (Some at) (next us) ≡ Some a → choose b (Some at) (next vs) ≡ Some a
     go true later q = q
     go false later q = later q
 
 -- where none is among the first words, none is where they are completed
-end_quiet : (opened : Bool) (at : ℕ) → alone_from opened at (end_word ∷ []) ≡ Absent
+end_quiet : (opened : Bool) (at : ℕ) → alone_from opened at (end_word ∷ []) ≡ None
 unfolding alone_from
 end_quiet true at = rw decoded_end
 end_quiet false at = refl
 
-completion_quiet : (s : State) (opened : Bool) (at : ℕ) → alone_from opened at (completion s) ≡ Absent
+completion_quiet : (s : State) (opened : Bool) (at : ℕ) → alone_from opened at (completion s) ≡ None
 unfolding alone_from
 completion_quiet Before opened at = end_quiet opened at
 completion_quiet Opened true at = rw decoded_positive (end_quiet false (suc at))
@@ -82,19 +81,19 @@ completion_quiet InPositive opened at = end_quiet opened at
 completion_quiet InNegative opened at = end_quiet opened at
 completion_quiet Closed opened at = refl
 
-completed_quiet : (opened : Bool) (at : ℕ) (p us : List ℕ) (s : State) → ((a : ℕ) → alone_from opened at (p ++ us) ≡ At a → at + length p ≤ a)
-    → alone_from opened at (p ++ completion s) ≡ Absent
+completed_quiet : (opened : Bool) (at : ℕ) (p us : List ℕ) (s : State) → ((a : ℕ) → alone_from opened at (p ++ us) ≡ Some a → at + length p ≤ a)
+    → alone_from opened at (p ++ completion s) ≡ None
 unfolding alone_from
 completed_quiet opened at [] us s h = completion_quiet s opened at
 completed_quiet opened at (w ∷ p) us s h =
     go (opened && begins_negative (decoded w)) h (λ f. completed_quiet (begins_rule (decoded w)) (suc at) p us s f)
   where
-    next : List ℕ → Alone
+    next : List ℕ → Option ℕ
     next ws = alone_from (begins_rule (decoded w)) (suc at) (p ++ ws)
 
-    go : (b : Bool) → ((a : ℕ) → choose b (At at) (next us) ≡ At a → at + suc (length p) ≤ a)
-        → (((a : ℕ) → next us ≡ At a → suc at + length p ≤ a) → next (completion s) ≡ Absent)
-        → choose b (At at) (next (completion s)) ≡ Absent
+    go : (b : Bool) → ((a : ℕ) → choose b (Some at) (next us) ≡ Some a → at + suc (length p) ≤ a)
+        → (((a : ℕ) → next us ≡ Some a → suc at + length p ≤ a) → next (completion s) ≡ None)
+        → choose b (Some at) (next (completion s)) ≡ None
     go true h later = absurd (omega (arith, h at refl))
     go false h later = later (λ a q. omega (arith, h a q))
 
@@ -154,13 +153,13 @@ terminals_begun (w ∷ ws) b =
 
 -- the words before the first negative of a rule without positives
 pub begins_quiet : (words : List ℕ) (i : ℕ) → 0 < i → i ≤ length words → (grammar_of words).terminals ≤ max_terminals_of_two
-    → ((a : ℕ) → first_alone words ≡ At a → i ≤ a) → BeginsEncoding (take i words) → BeginsEncodingBy Two (take i words)
+    → ((a : ℕ) → first_alone words ≡ Some a → i ≤ a) → BeginsEncoding (take i words) → BeginsEncodingBy Two (take i words)
 begins_quiet [] i l m t h b = absurd (omega arith)
 begins_quiet (w ∷ ws) zero l m t h b = absurd (omega arith)
 begins_quiet (w ∷ ws) (suc j) l m t h b =
     let c = completed w (take j ws) b in
     let us = w ∷ take j ws ++ completion c.state in
-    let quiet : first_alone us ≡ Absent
+    let quiet : first_alone us ≡ None
     = completed_quiet false 0 (w ∷ take j ws) (drop j ws) c.state
     (λ a e. omega (arith, h a (rw (take-append-drop j ws) at e), length-take-le j ws (omega arith))) in
     record {
@@ -171,7 +170,7 @@ begins_quiet (w ∷ ws) (suc j) l m t h b =
     }
 
 -- and no more of them
-pub alone_stops : (words : List ℕ) (a : ℕ) → first_alone words ≡ At a → BeginsEncodingBy Two (take (suc a) words) → ⊥
+pub alone_stops : (words : List ℕ) (a : ℕ) → first_alone words ≡ Some a → BeginsEncodingBy Two (take (suc a) words) → ⊥
 alone_stops words a e b =
     let us = take (suc a) words ++ b.rest in
     let among : length (take (suc a) words) ≡ suc a = length-take-le (suc a) words (omega (arith, alone_among false 0 words a e)) in

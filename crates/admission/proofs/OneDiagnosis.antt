@@ -1,11 +1,11 @@
 -- With a lookahead, too, a row of words has at most one diagnosis; so what is admitted is the one that there is.
+use Rattle.std.specs.Prelude.{Err, Ok, Result}
+use Rattle.grammar.specs.declared.reading.Sizes.{Sizes}
 use mathlib.Core.Path.{◌≡◌, refl, ap, subst}
 use mathlib.Core.List.{List}
 use Prim.Native.Nat.{ℕ}
 use native.Mathlib.Omega.{arith}
 use Rattle.answer.specs.declared.Error.{Error}
-use Rattle.grammar.specs.declared.reading.Reading.{Reading}
-use Rattle.grammar.specs.declared.reading.Reading.TheVariants.{Read, Faulty}
 use Rattle.encoding.specs.Encode.{sizes_of}
 use Rattle.encoding.proofs.Decoding.{encode_injective}
 use Rattle.encoding.proofs.OneDiagnosis.{StopsAt, stops_once, one_fault}
@@ -39,18 +39,18 @@ one_fault_by words i _ _ (FaultBy.alone l n) (FaultBy.terminals z n') = absurd (
 one_fault_by words i _ _ (FaultBy.alone l n) (FaultBy.word l' f w) = absurd (n f)
 one_fault_by words i _ _ (FaultBy.alone l n) (FaultBy.alone l' n') = refl
 
-one_diagnosis_by : (k : Lookahead) (words : List ℕ) (o u : Reading) → DiagnosisBy k words o → DiagnosisBy k words u → o ≡ u
+one_diagnosis_by : (k : Lookahead) (words : List ℕ) (o u : Result Sizes Error) → DiagnosisBy k words o → DiagnosisBy k words u → o ≡ u
 one_diagnosis_by k words _ _ (DiagnosisBy.long s) (DiagnosisBy.long t) = refl
 one_diagnosis_by k words _ _ (DiagnosisBy.long s) (DiagnosisBy.fault t f x) = absurd (omega arith)
 one_diagnosis_by k words _ _ (DiagnosisBy.long s) (DiagnosisBy.encoding t e f) = absurd (omega arith)
 one_diagnosis_by k words _ _ (DiagnosisBy.fault s f x) (DiagnosisBy.long t) = absurd (omega arith)
 one_diagnosis_by k words _ _ (DiagnosisBy.fault {i} {x} s f v) (DiagnosisBy.fault {i = j} {x = y} t g w) =
-    ap Faulty (one_fault_by words j x y (rw (first_unique_by k words i j f g) at v) w)
+    ap Err (one_fault_by words j x y (rw (first_unique_by k words i j f g) at v) w)
 one_diagnosis_by k words _ _ (DiagnosisBy.fault s f x) (DiagnosisBy.encoding {G} t e g) = absurd (f.whole G e g)
 one_diagnosis_by k words _ _ (DiagnosisBy.encoding s e f) (DiagnosisBy.long t) = absurd (omega arith)
 one_diagnosis_by k words _ _ (DiagnosisBy.encoding {G} s e f) (DiagnosisBy.fault t g x) = absurd (g.whole G e f)
 one_diagnosis_by k words _ _ (DiagnosisBy.encoding {G} s e f) (DiagnosisBy.encoding {G = H} t g h) =
-    ap (λ F. Read (sizes_of F)) (encode_injective words G H e g)
+    ap (λ F. Ok (sizes_of F)) (encode_injective words G H e g)
 
 pub diagnosed : (k : Lookahead) (words : List ℕ) → Diagnosed k words
 diagnosed k words o =

@@ -1,4 +1,5 @@
 -- The search for a rule without positives: one turn, and what it finds in a row of words that is read.
+use Rattle.std.specs.Prelude.{None, Ok, Option, Some}
 use mathlib.Core.Path.{◌≡◌, refl, sym, ap, ◌∙◌}
 use mathlib.Core.Bool.{Bool, true, false, ◌&&◌, false≢true}
 use mathlib.Core.List.Memᴰ
@@ -18,15 +19,12 @@ use Rattle.grammar.specs.Encoding.{Parsed, parsed, rule_of, on_word, parse}
 use Rattle.grammar.specs.Reading.{row, allows, begins_rule, state_after, stepped, scan}
 use Rattle.grammar.specs.declared.reading.Sizes.{Sizes}
 use Rattle.grammar.specs.declared.reading.Progress.{Progress}
-use Rattle.grammar.specs.declared.reading.Reading.TheVariants.{Read}
 use Rattle.grammar.proofs.WellFormed.{Each, none_in, more_in, Shape, step_passed, onward, finished_read, reads}
 use Rattle.base.specs.Choice.{choose}
-use Rattle.admission.specs.declared.Alone.{Alone as Found}
-use Rattle.admission.specs.declared.Alone.TheVariants.{Absent, At}
 use Rattle.admission.specs.Admission.{begins_negative, alone_from}
 
 module _ (words : List ℕ) (opened : Bool) (at : ℕ) {w : Word} (h : at < length words) (e : w ≡ decoded (get_or words at 0)) where
-  pub alone_here : (opened && begins_negative w) ≡ true → alone_from opened at (drop at words) ≡ At at
+  pub alone_here : (opened && begins_negative w) ≡ true → alone_from opened at (drop at words) ≡ Some at
   unfolding alone_from
   alone_here t = rw (drop-cons words at 0 h, ← e, t)
 
@@ -35,18 +33,18 @@ module _ (words : List ℕ) (opened : Bool) (at : ℕ) {w : Word} (h : at < leng
   unfolding alone_from
   alone_next t n = rw (drop-cons words at 0 h, ← e, t, n, add-one at)
 
-pub alone_none : (words : List ℕ) (opened : Bool) (at : ℕ) → length words ≤ at → alone_from opened at (drop at words) ≡ Absent
+pub alone_none : (words : List ℕ) (opened : Bool) (at : ℕ) → length words ≤ at → alone_from opened at (drop at words) ≡ None
 unfolding alone_from
 alone_none words opened at h = rw (drop_of_length-le words h)
 
 -- what is found is one of the words
-pub alone_among : (opened : Bool) (at : ℕ) (ws : List ℕ) (i : ℕ) → alone_from opened at ws ≡ At i → i < at + length ws
+pub alone_among : (opened : Bool) (at : ℕ) (ws : List ℕ) (i : ℕ) → alone_from opened at ws ≡ Some i → i < at + length ws
 unfolding alone_from
 alone_among opened at [] i e = let n : ◌≡◌ {A = ℕ} 0 1 = cc in absurd (omega arith)
 alone_among opened at (w ∷ ws) i e = go (opened && begins_negative (decoded w)) (alone_among (begins_rule (decoded w)) (suc at) ws i) e
   where
-    go : (b : Bool) → (alone_from (begins_rule (decoded w)) (suc at) ws ≡ At i → i < suc at + length ws)
-        → choose b (At at) (alone_from (begins_rule (decoded w)) (suc at) ws) ≡ At i → i < at + length (w ∷ ws)
+    go : (b : Bool) → (alone_from (begins_rule (decoded w)) (suc at) ws ≡ Some i → i < suc at + length ws)
+        → choose b (Some at) (alone_from (begins_rule (decoded w)) (suc at) ws) ≡ Some i → i < at + length (w ∷ ws)
     go true later q = let n : i ≡ at = cc in omega (arith, n)
     go false later q = omega (arith, later q)
 
@@ -155,7 +153,7 @@ behind_word End s p a h r o = record { quiet = and_false (is_opened s); each = r
 behind_word (Heading m t) s p a h r o = absurd (false≢true a)
 behind_word Invalid s p a h r o = absurd (false≢true a)
 
-some_absent : (b : Bool) (i : ℕ) (a : Found) → choose b (At i) a ≡ Absent → (b ≡ false) × (a ≡ Absent)
+some_absent : (b : Bool) (i : ℕ) (a : Option ℕ) → choose b (Some i) a ≡ None → (b ≡ false) × (a ≡ None)
 some_absent true i a e = let n : ◌≡◌ {A = ℕ} 0 1 = cc in absurd (omega arith)
 some_absent false i a e = (refl, e)
 
@@ -163,7 +161,7 @@ open_ended : (s : State) (p : Parsed) → s ≡ Closed → Open s p
 open_ended s p e = rw e tt
 
 -- where none is found in words that are read, each rule has a positive
-pub none_found : (p : Progress) (at : ℕ) (ws : List ℕ) (z : Sizes) → scan p at ws ≡ Read z → alone_from (is_opened p.state) at ws ≡ Absent
+pub none_found : (p : Progress) (at : ℕ) (ws : List ℕ) (z : Sizes) → scan p at ws ≡ Ok z → alone_from (is_opened p.state) at ws ≡ None
     → Each Positives (parse ws).rules × Open p.state (parse ws)
 unfolding scan parse alone_from
 none_found p at [] z e n = (none_in Positives, open_ended p.state (parse []) (finished_read p at z e).0)
@@ -176,8 +174,8 @@ none_found p at (w ∷ ws) z e n =
     with_word (decoded w) p.state (parse ws) k.allowed f.0 i.0 (rw k.state at i.1)
 
 -- and where each has one, none is found
-pub found_none : (p : Progress) (at : ℕ) (ws : List ℕ) (z : Sizes) → scan p at ws ≡ Read z → Each Positives (parse ws).rules → Open p.state (parse ws)
-    → alone_from (is_opened p.state) at ws ≡ Absent
+pub found_none : (p : Progress) (at : ℕ) (ws : List ℕ) (z : Sizes) → scan p at ws ≡ Ok z → Each Positives (parse ws).rules → Open p.state (parse ws)
+    → alone_from (is_opened p.state) at ws ≡ None
 unfolding scan parse alone_from
 found_none p at [] z e r o = refl
 found_none p at (w ∷ ws) z e r o =

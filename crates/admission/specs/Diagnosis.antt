@@ -1,9 +1,8 @@
 -- What is to be told of a row of words with a lookahead: the sizes of the grammar that it encodes and that fits, or its first fault. No reading occurs in it.
-use Rattle.std.specs.Prelude.{◌≡◌, List, ◌++◌, ◌↔◌, ℕ, suc, ◌≤◌, ◌<◌, length, take}
+use Rattle.std.specs.Prelude.{Err, Ok, Result, ◌≡◌, List, ◌++◌, ◌↔◌, ℕ, suc, ◌≤◌, ◌<◌, length, take}
+use Rattle.grammar.specs.declared.reading.Sizes.{Sizes}
 use Rattle.answer.specs.declared.Error.{Error}
 use Rattle.answer.specs.declared.Error.TheVariants.{Length, Heading, UnexpectedWord, TooManyTerminals}
-use Rattle.grammar.specs.declared.reading.Reading.{Reading}
-use Rattle.grammar.specs.declared.reading.Reading.TheVariants.{Read, Faulty}
 use Rattle.grammar.specs.Limits.{max_words}
 use Rattle.grammar.specs.Syntax.{Grammar}
 use Rattle.encoding.specs.Encode.{sizes_of, Encodes}
@@ -35,11 +34,11 @@ pub data FaultBy (words : List ℕ) (i : ℕ) : Error → Type 0 where
   alone : 0 < i → (FirstFault words i → ⊥) → FaultBy words i (UnexpectedWord i)
 
 -- 3, a fault of the first faulty word, or none of them
-pub data DiagnosisBy (k : Lookahead) (words : List ℕ) : Reading → Type 0 where
-  long : max_words < length words → DiagnosisBy k words (Faulty Length)
-  fault : {i : ℕ} {x : Error} → length words ≤ max_words → FirstFaultBy k words i → FaultBy words i x → DiagnosisBy k words (Faulty x)
-  encoding : {G : Grammar} → length words ≤ max_words → Encodes words G → Fits k G → DiagnosisBy k words (Read (sizes_of G))
+pub data DiagnosisBy (k : Lookahead) (words : List ℕ) : Result Sizes Error → Type 0 where
+  long : max_words < length words → DiagnosisBy k words (Err Length)
+  fault : {i : ℕ} {x : Error} → length words ≤ max_words → FirstFaultBy k words i → FaultBy words i x → DiagnosisBy k words (Err x)
+  encoding : {G : Grammar} → length words ≤ max_words → Encodes words G → Fits k G → DiagnosisBy k words (Ok (sizes_of G))
 
 -- what is admitted is what there is to tell and nothing else
 abbrev pub Diagnosed : Lookahead → List ℕ → Type 0
-Diagnosed k words = (o : Reading) → (admission k words ≡ o) ↔ DiagnosisBy k words o
+Diagnosed k words = (o : Result Sizes Error) → (admission k words ≡ o) ↔ DiagnosisBy k words o

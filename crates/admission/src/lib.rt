@@ -7,7 +7,7 @@ ghost use Rattle.admission.specs.Admission.{begins_negative, first_alone, of_hea
 
 use answer::{Error, code, position};
 use grammar::limits::TERMINALS_OF_TWO;
-use grammar::reading::Reading;
+use grammar::reading::Sizes;
 use lookahead::Lookahead;
 use reader::{declared, read};
 use reading_steps::begins_rule;
@@ -16,107 +16,82 @@ use word::{Word, decode};
 // The code of a faulty heading; that of a faulty length is below it, and those of faulty words are above.
 const HEADING: u32 = 4;
 
-// Where a rule without positives begins its first negative, by index.
-#[derive(Clone, Copy)]
-pub(crate) enum Alone {
-    Absent,
-    At(usize),
-}
-
 pub fn begins_negative(word: Word) -> bool
     ensures { result ≡ begins_negative word }
 {
-    match word {
-        Word::Negative => true,
-        Word::Rule(_) => false,
-        Word::Positive => false,
-        Word::Symbol(_) => false,
-        Word::End => false,
-        Word::Heading {
-            nonterminals: _,
-            terminals: _,
-        } => false,
-        Word::Invalid => false,
-    }
+    matches!(word, Word::Negative)
 }
 
 // A negative begins right behind the begin of a rule.
 fn stands_alone(opened: bool, word: Word) -> bool
     ensures { result ≡ (opened && begins_negative word) }
 {
-    if opened { begins_negative(word) } else { false }
+    opened && begins_negative(word)
 }
 
 // The first rule without positives.
-fn first_alone(words: &[u32]) -> Alone
+fn first_alone(words: &[u32]) -> Option<usize>
     ensures { result ≡ first_alone words.now }
 {
     let mut opened = false;
-    let mut at = 0;
-    while at < words.len() {
-        let word = decode(words[at]);
+    for (at, bits) in words.iter().enumerate() {
+        let word = decode(*bits);
         if stands_alone(opened, word) {
-            return Alone::At(at);
+            return Some(at);
         }
         opened = begins_rule(word);
-        at = at + 1;
     }
-    Alone::Absent
+    None
 }
 
 fn declared_terminals(words: &[u32]) -> u32
     ensures { result ≡ (grammar_of words.now).terminals }
 {
-    if words.len() == 0 {
+    if words.is_empty() {
         return 0;
     }
     declared(decode(words[0])).terminals
 }
 
 // A rule without positives is reported where no word before it is faulty.
-fn with_alone(outcome: Reading, alone: Alone) -> Reading
+fn with_alone(outcome: Result<Sizes, Error>, alone: Option<usize>) -> Result<Sizes, Error>
     ensures { result ≡ faulty_or (word_fault outcome alone) outcome }
 {
-    match alone {
-        Alone::Absent => outcome,
-        Alone::At(at) => match outcome {
-            Reading::Read(_) => Reading::Faulty(Error::UnexpectedWord(at)),
-            Reading::Faulty(error) => {
-                if at < position(error) {
-                    Reading::Faulty(Error::UnexpectedWord(at))
-                } else {
-                    outcome
-                }
-            }
-        },
+    let Some(at) = alone else {
+        return outcome;
+    };
+    match outcome {
+        Ok(_) => Err(Error::UnexpectedWord(at)),
+        Err(error) if at < position(error) => Err(Error::UnexpectedWord(at)),
+        Err(_) => outcome,
     }
 }
 
-fn of_heading(outcome: Reading) -> bool
+fn of_heading(outcome: Result<Sizes, Error>) -> bool
     ensures { result ≡ of_heading outcome }
 {
     match outcome {
-        Reading::Read(_) => false,
-        Reading::Faulty(error) => code(error) <= HEADING,
+        Ok(_) => false,
+        Err(error) => code(error) <= HEADING,
     }
 }
 
 // With two tokens of lookahead, behind the length and the heading.
 #[tactic(auto, using(crate::proofs::Admitted::many_terminals))]
-fn admit_two(words: &[u32], outcome: Reading) -> Reading
+fn admit_two(words: &[u32], outcome: Result<Sizes, Error>) -> Result<Sizes, Error>
     ensures { result ≡ faulty_or (two_tokens_fault outcome words.now) outcome }
 {
     if of_heading(outcome) {
         return outcome;
     }
     if TERMINALS_OF_TWO < declared_terminals(words) {
-        return Reading::Faulty(Error::TooManyTerminals);
+        return Err(Error::TooManyTerminals);
     }
     with_alone(outcome, first_alone(words))
 }
 
 // The first fault of an encoded grammar, or its sizes.
-pub fn admit(words: &[u32], lookahead: Lookahead) -> Reading
+pub fn admit(words: &[u32], lookahead: Lookahead) -> Result<Sizes, Error>
     ensures { result ≡ admission lookahead words.now }
 {
     let outcome = read(words);

@@ -1,11 +1,11 @@
 -- A grammar that passes with one token has no clash with two; and of the other refusals with two tokens none is a 9.
+use Rattle.std.specs.Prelude.{Option, None, Some}
 use mathlib.Core.List.{List}
 use mathlib.Core.Path.{◌≡◌, sym, ◌∙◌}
 use Prim.Native.Nat.{ℕ}
 use native.Mathlib.Omega.{arith}
 use Rattle.grammar.specs.Encoding.{grammar_of}
 use Rattle.lookahead.specs.declared.Lookahead.TheVariants.{One, Two}
-use Rattle.table_promises.specs.declared.Conflict.TheVariants.{Absent, At}
 use Rattle.table_promises.proofs.FirstClash.{clash_absent}
 use Rattle.recognizer_promises.specs.Properties.{PassedGrammar}
 use Rattle.recognizer_promises.proofs.Checking.{passed_predictive}
@@ -15,7 +15,7 @@ use Rattle.agreement.specs.Widening.{NoConflict, NeverConflicts}
 use Rattle.agreement.proofs.Enough.{enough}
 
 -- a clash is found or not
-at_absent : {A c : ℕ} → At A c ≡ Absent → ⊥
+at_absent : {A c : ℕ} → ◌≡◌ {A = Option (ℕ × ℕ)} (Some (A, c)) None → ⊥
 at_absent q = let z : ◌≡◌ {A = ℕ} 0 1 = cc in omega arith
 
 module _ (words : List ℕ) (passed : PassedGrammar One words) where

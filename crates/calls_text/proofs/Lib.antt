@@ -1,4 +1,3 @@
 pub mod Cursors
-pub mod Lines
 pub mod Lengths
 pub mod Examples

@@ -3,7 +3,7 @@ ghost use Rattle.std.specs.Prelude.{◌≡◌, ℕ, ◌+◌, ◌^◌, ◌<◌};
 ghost use Rattle.calls_text.specs.inner.Cursors.{Stands};
 
 // The nonterminal and the place are carried along, so that no index is divided by the length of a row.
-#[derive(Clone, Copy)]
+#[derive(Clone, Copy, Default)]
 pub struct Cursor {
     pub index: usize,
     pub nonterminal: usize,
@@ -15,11 +15,7 @@ impl Cursor {
     pub(crate) fn first() -> Cursor
         ensures { (result.index ≡ 0) × ((tokens : ℕ) → Stands tokens result) }
     {
-        Cursor {
-            index: 0,
-            nonterminal: 0,
-            place: 0,
-        }
+        Cursor::default()
     }
 
     // The entry behind this one: that of the next place, or of the next nonterminal's first.
@@ -30,8 +26,8 @@ impl Cursor {
         if self.place < tokens as usize {
             Cursor {
                 index: self.index + 1,
-                nonterminal: self.nonterminal,
                 place: self.place + 1,
+                ..self
             }
         } else {
             Cursor {

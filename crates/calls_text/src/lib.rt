@@ -1,69 +1,53 @@
 // What is printed of the calls that a memo table holds.
 #![tactic(auto)]
 
-ghost use Rattle.std.specs.Prelude.{◌≡◌, get_or};
-ghost use Rattle.grammar.specs.Codes.{uncalled_code};
-ghost use Rattle.text.specs.Writing.{Put};
-ghost use Rattle.calls_text.specs.inner.Cursors.{EntryPut};
+ghost use Rattle.text.specs.inner.Outputs.{Puts};
 ghost use Rattle.calls_text.specs.Calls.{end_text, call_text, calls_text};
+ghost use Rattle.calls_text.specs.inner.Cursors.{EntryPut};
 
 use cursor::Cursor;
 use grammar::codes::{FAILED, UNCALLED};
-use text::put::{put_bytes, put_labelled, put_number, put_or_dash};
+use text::Output;
 
 mod cursor;
 
 // How many bytes the line of a call takes at most.
 pub const ROOM: usize = 13;
 
-// An entry of the memo table; behind its end nothing was called.
-fn entry_at(memo: &[u16], at: usize) -> u16
-    ensures { result ≡ get_or memo.now at uncalled_code }
+fn put_end(output: &mut Output<'_>, entry: u16)
+    ensures { Puts (end_text entry) output.old output.new }
 {
-    if at < memo.len() { memo[at] } else { UNCALLED }
+    output.put_or_dash(entry as usize, FAILED as usize);
 }
 
-fn put_end(out: &mut [u8], at: usize, entry: u16) -> usize
-    ensures { Put out.old at (end_text entry) out.new result }
-{
-    put_or_dash(out, at, entry as usize, FAILED as usize)
-}
-
-#[tactic(auto, unfolding(crate::specs::Calls::call_text))]
-fn put_call(out: &mut [u8], at: usize, nonterminal: usize, place: usize, entry: u16) -> usize
-    ensures { Put out.old at (call_text nonterminal place entry) out.new result }
+fn put_call(output: &mut Output<'_>, nonterminal: usize, place: usize, entry: u16)
+    ensures { Puts (call_text nonterminal place entry) output.old output.new }
 {
     if entry == UNCALLED {
-        return at;
+        return;
     }
-    let at = put_number(out, at, nonterminal);
-    let at = put_labelled(out, at, b" ", place);
-    let at = put_end(out, at, entry);
-    put_bytes(out, at, b"\n")
+    output.put_number(nonterminal);
+    output.put_labelled(b" ", place);
+    put_end(output, entry);
+    output.put_bytes(b"\n");
 }
 
-// What is printed of the entry at a cursor: the nonterminal and the place of its index are the cursor's.
-fn put_entry(out: &mut [u8], at: usize, cursor: Cursor, memo: &[u16]) -> usize
-    ensures { EntryPut out.old at cursor memo.now out.new result }
+// What is printed of the entry at a cursor: the nonterminal and the place of its index are the cursor's. Behind the end of the memo table nothing
+// was called.
+fn put_entry(output: &mut Output<'_>, cursor: Cursor, memo: &[u16])
+    ensures { EntryPut cursor memo.now output.old output.new }
 {
-    put_call(
-        out,
-        at,
-        cursor.nonterminal,
-        cursor.place,
-        entry_at(memo, cursor.index),
-    )
+    let entry = memo.get(cursor.index).copied().unwrap_or(UNCALLED);
+    put_call(output, cursor.nonterminal, cursor.place, entry);
 }
 
-pub fn put_calls(out: &mut [u8], at: usize, nonterminals: u32, tokens: u16, memo: &[u16]) -> usize
-    ensures { Put out.old at (calls_text nonterminals tokens memo.now) out.new result }
+pub fn put_calls(output: &mut Output<'_>, nonterminals: u32, tokens: u16, memo: &[u16])
+    ensures { Puts (calls_text nonterminals tokens memo.now) output.old output.new }
 {
     let entries = nonterminals as usize * (tokens as usize + 1);
-    let mut next = at;
     let mut cursor = Cursor::first();
-    while cursor.index < entries {
-        next = put_entry(out, next, cursor, memo);
+    for _entry in 0..entries {
+        put_entry(output, cursor, memo);
         cursor = cursor.step(tokens);
     }
-    next
 }

@@ -3,62 +3,29 @@
 #![tactic(auto)]
 
 ghost use Rattle.std.specs.Prelude.{◌≡◌, ◌≤◌, length, take};
-ghost use Rattle.std.specs.Io.KnownBytes.{Consumes};
 
-use file_words::{Loaded, load};
+use file_reading::read_file;
+use file_words::load;
 use grammar::limits::{MEMO_ENTRIES, PLACES, TABLE_WORDS, TABLE_WORDS_OF_TWO, TOKENS, WORDS};
 use judgement_text::put_judgement;
 use recognizer::{judge_costliest, judge_two};
 use report_texts::{FILE_BYTES, INPUT_BYTES, SHEET_ROOM};
-use std::fs;
-use std::io::Read;
 use std::rt::Files;
-use text::put::{put_bytes, put_number};
+use text::Output;
 use tree_writer::judge_tree;
 
 // Room for a line.
 const LINE: usize = 32;
-
-// Reads until `buf` is full, the input ends or a read fails, and tells how many bytes it has put at its start.
-fn read_full<R: Read>(reader: &mut R, buf: &mut [u8]) -> usize
-    ensures within { result ≤ length buf.new }
-    ensures taken { result ≡ length (take result buf.new) }
-    ensures bytes { Consumes (R.remaining reader.old) (R.remaining reader.new) (take result buf.new) }
-{
-    let mut done = 0;
-    while done < buf.len() {
-        match reader.read(&mut buf[done..]) {
-            Ok(0) | Err(_) => break,
-            Ok(n) => done += n,
-        }
-    }
-    done
-}
-
-// The start of a file; one that cannot be opened is read as no words.
-fn read(files: &impl Files, path: &str, card: &mut [u8; FILE_BYTES]) -> usize
-    ensures within { result ≤ length card.new }
-    ensures taken { result ≡ length (take result card.new) }
-{
-    let Ok(mut file) = fs::open(files, path) else {
-        return 0;
-    };
-    read_full(&mut file, card)
-}
 
 // Where the first line ends: behind its line feed.
 fn first_line(text: &[u8]) -> usize
     ensures within { result ≤ length text.now }
     ensures taken { result ≡ length (take result text.now) }
 {
-    let mut at = 0;
-    while at < text.len() {
-        if text[at] == 10 {
-            return at + 1;
-        }
-        at = at + 1;
+    match text.iter().position(|byte| *byte == b'\n') {
+        Some(at) => at + 1,
+        None => text.len(),
     }
-    at
 }
 
 fn write_line(rt: &impl Print, text: &[u8]) {
@@ -74,7 +41,7 @@ fn name(rt: &impl Print, path: &str) {
 fn checked(rt: &(impl Files + Print), path: &str) {
     name(rt, path);
     let mut card = [0u8; FILE_BYTES];
-    let n = read(rt, path, &mut card);
+    let n = read_file(rt, path, &mut card);
     let mut text = [0u8; SHEET_ROOM];
     let length = report::sheet(&card[..n], &mut text);
     let _ = rt.write_all(&text[..length]);
@@ -83,7 +50,7 @@ fn checked(rt: &(impl Files + Print), path: &str) {
 // The verdict on an input, by a grammar.
 fn judged(rt: &(impl Files + Print), path: &str, log: &[u8]) {
     let mut card = [0u8; FILE_BYTES];
-    let n = read(rt, path, &mut card);
+    let n = read_file(rt, path, &mut card);
     let mut text = [0u8; LINE];
     let length = report::judgement(&card[..n], log, &mut text);
     write_line(rt, &text[..length]);
@@ -146,18 +113,22 @@ fn deepest(rt: &(impl Files + Print), path: &str) {
 // How many vertices a tree has.
 fn vertices(rt: &impl Print, count: usize) {
     let mut text = [0u8; LINE];
-    let next = put_number(&mut text, 0, count);
-    put_bytes(&mut text, next, b" vertices\n");
+    let mut output = Output {
+        bytes: &mut text,
+        at: 0,
+    };
+    output.put_number(count);
+    output.put_bytes(b" vertices\n");
     write_line(rt, &text);
 }
 
 // The verdict on an input, by a grammar, with two tokens of lookahead.
 fn judged_by_two(rt: &(impl Files + Print), path: &str, log: &[u8], table: &mut [u64]) {
     let mut card = [0u8; FILE_BYTES];
-    let n = read(rt, path, &mut card);
+    let n = read_file(rt, path, &mut card);
     let mut words = [0u32; WORDS];
     let loaded = load(&card[..n], &mut words);
-    let Loaded::Words(count) = loaded else {
+    let Some(count) = loaded else {
         return;
     };
     let mut memo = [0u16; MEMO_ENTRIES];
@@ -201,10 +172,10 @@ fn limits_of_two(rt: &(impl Files + Print)) {
 fn costliest(rt: &(impl Files + Print), path: &str, tokens: usize, log: &mut [u8]) {
     name(rt, path);
     let mut card = [0u8; FILE_BYTES];
-    let n = read(rt, path, &mut card);
+    let n = read_file(rt, path, &mut card);
     let mut words = [0u32; WORDS];
     let loaded = load(&card[..n], &mut words);
-    let Loaded::Words(count) = loaded else {
+    let Some(count) = loaded else {
         return;
     };
     let mut table = [0u32; TABLE_WORDS];
@@ -231,10 +202,10 @@ fn limits_of_searching(rt: &(impl Files + Print)) {
 fn deepest_tree(rt: &(impl Files + Print), path: &str) {
     name(rt, path);
     let mut card = [0u8; FILE_BYTES];
-    let n = read(rt, path, &mut card);
+    let n = read_file(rt, path, &mut card);
     let mut words = [0u32; WORDS];
     let loaded = load(&card[..n], &mut words);
-    let Loaded::Words(count) = loaded else {
+    let Some(count) = loaded else {
         return;
     };
     let mut table = [0u32; TABLE_WORDS];

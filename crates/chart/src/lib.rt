@@ -33,14 +33,12 @@ pub fn before(chart: &[u64; CHART], nonterminal: u32, set: u64, start: usize, en
         return 0;
     }
     let mut found = 0u64;
-    let mut at = start;
-    while at <= end {
+    for at in start..end + 1 {
         found = joined(
             contains(set, at),
             chart[nonterminal as usize * TABULAR_PLACES + at],
             found,
         );
-        at = at + 1;
     }
     found
 }
@@ -59,19 +57,18 @@ pub fn add(chart: &mut [u64; CHART], nonterminals: u32, start: usize, end: usize
     if TABULAR_PLACES <= end {
         return;
     }
-    let mut at = u32::trailing_zeros(word);
-    while at < nonterminals {
+    for at in word.trailing_zeros()..nonterminals {
         let rest = word >> at;
         if rest == 0 {
             return;
         }
         let slot = at as usize * TABULAR_PLACES + end;
         chart[slot] = put(chart[slot], start, rest & 1 == 1);
-        at = at + 1;
     }
 }
 
 // The verdict on an input of so many tokens: whether nonterminal 0 has all of it. No call is made.
+#[tactic(auto, unfolding(tabular_promises::specs::inner::Chart::chart_verdict))]
 pub fn verdict(chart: &[u64; CHART], tokens: usize) -> Answer
     ensures { result ≡ chart_verdict chart.now tokens }
 {
@@ -79,10 +76,7 @@ pub fn verdict(chart: &[u64; CHART], tokens: usize) -> Answer
         count: 0,
         farthest: 0,
     };
-    if TABULAR_PLACES <= tokens {
-        return Answer::Rejected(calls);
-    }
-    if contains(chart[tokens], 0) {
+    if tokens < TABULAR_PLACES && contains(chart[tokens], 0) {
         Answer::Accepted(calls)
     } else {
         Answer::Rejected(calls)

@@ -3,11 +3,12 @@
 
 ghost use Rattle.std.specs.Prelude.{◌≡◌, leb};
 ghost use Rattle.table_promises.specs.Layout.{table_room};
+ghost use Rattle.recognizer_promises.specs.Answers.{table_too_short};
 ghost use Rattle.check_answers.specs.inner.Answers.{answer_of};
 
-use answer::Answer;
-use families::Finding;
+use answer::{Answer, Error};
 use grammar::limits::{TABLE_WORDS, TABLE_WORDS_OF_TWO};
+use grammar::reading::Sizes;
 use lookahead::Lookahead;
 
 // Whether so many words have room for every table.
@@ -20,12 +21,22 @@ pub fn has_room(length: usize, lookahead: Lookahead) -> bool
     }
 }
 
+// Why a table that has no room is refused.
+pub fn table_too_short(lookahead: Lookahead) -> Error
+    ensures { result ≡ table_too_short lookahead }
+{
+    match lookahead {
+        Lookahead::One => Error::TableTooShort,
+        Lookahead::Two => Error::TableOfTwoTooShort,
+    }
+}
+
 // What is answered, by what is found.
-pub fn answer(finding: Finding) -> Answer
+pub fn answer(finding: Result<Sizes, Error>) -> Answer
     ensures { result ≡ answer_of finding }
 {
     match finding {
-        Finding::Refused(error) => Answer::Refused(error),
-        Finding::Passed(_) => Answer::Passed,
+        Err(error) => Answer::Refused(error),
+        Ok(_) => Answer::Passed,
     }
 }

@@ -31,6 +31,7 @@ pub fn note(once: &mut [u64; SETS], twice: &mut [u64; SETS], head: usize, claim:
 }
 
 // The first terminal where a rule has no positives and more than the end can follow it, else what was told before.
+#[tactic(auto, unfolding(crate::specs::inner::Steps::beyond_end))]
 pub fn told(
     alone: bool,
     follow: LookaheadSet,
@@ -40,10 +41,7 @@ pub fn told(
     ensures { result.bits ≡ choose (alone && beyond_end lookahead follow.bits) (terminal lookahead 0) before.bits }
 {
     let end = LookaheadSet::end(lookahead);
-    if end.join(follow).bits == end.bits {
-        return before;
-    }
-    if alone {
+    if alone && end.join(follow) != end {
         LookaheadSet::terminal(lookahead, 0)
     } else {
         before

@@ -1,4 +1,5 @@
 -- What is found of an encoded grammar, by its families, by the heads and the claims of its rules and by the nonterminals that overrun, and what that tells.
+use Rattle.std.specs.Prelude.{Err, Ok}
 use mathlib.Core.Path.{◌≡◌, sym, ap, ◌∙◌}
 use mathlib.Core.List.{List}
 use mathlib.Core.Option.{none}
@@ -9,10 +10,8 @@ use Rattle.grammar.specs.Encoding.{grammar_of}
 use Rattle.grammar.specs.Limits.{max_nonterminals, max_rules}
 use Rattle.grammar.specs.inner.Starts.{rule_starts}
 use Rattle.grammar.specs.declared.reading.Sizes.{Sizes}
-use Rattle.grammar.specs.declared.reading.Reading.TheVariants.{Read}
 use Rattle.lookahead.specs.declared.Lookahead.{Lookahead}
 use Rattle.admission.specs.Admission.{admission}
-use Rattle.families.specs.declared.Finding.TheVariants.{Passed, Refused}
 use Rattle.families.specs.declared.Families.{Families}
 use Rattle.families.specs.Analysis.{sets_fault}
 use Rattle.families.specs.inner.Analysis.{starts_if, by_rule_if, sets_if, first_families_of, families_of}
@@ -31,7 +30,7 @@ pub given : {k : Lookahead} {words : List ℕ} {z : Sizes} {r : Families} → Fo
     → FamiliesGiven k words z r.starts r.meets r.follows
 given f = let g = f.firsts in record { read = g.read; begins = g.begins; met = g.met; follow = f.follow }
 
-pub refused_claims : (k : Lookahead) (words : List ℕ) {r : Families} {x : Error} → r ≡ families_of k words → r.finding ≡ Refused x
+pub refused_claims : (k : Lookahead) (words : List ℕ) {r : Families} {x : Error} → r ≡ families_of k words → r.finding ≡ Err x
     → claims_with r.finding r.starts r.firsts r.follows (replicate max_rules 0) (replicate max_rules 0) (replicate max_nonterminals 0)
     ≡ claims_of k words
 unfolding claims_of families_of first_families_of
@@ -43,7 +42,7 @@ heads_given {k} {words} f p = record { read = admitted_read k words f.firsts.rea
 
 pub all_claims : {k : Lookahead} {words : List ℕ} {z : Sizes} {r : Families} {heads sets told : List ℕ} → FoundFamilies k words z r
     → AllKept k (grammar_of words) heads sets → Overrunning k (grammar_of words).rules r.follows told
-    → claims_with (Passed z) r.starts r.firsts r.follows heads sets told ≡ claims_of k words
+    → claims_with (Ok z) r.starts r.firsts r.follows heads sets told ≡ claims_of k words
 unfolding claims_of
 all_claims {told = told} f p o =
     let g = f.firsts in
@@ -51,7 +50,7 @@ all_claims {told = told} f p o =
 
 -- what claims that are found tell
 pub record Claimed (k : Lookahead) (words : List ℕ) (z : Sizes) (r : Claims) : Type 0 where
-  pub read : admission k words ≡ Read z
+  pub read : admission k words ≡ Ok z
   pub faultless : sets_fault k words ≡ none
   pub begins : r.starts ≡ rule_starts words
   pub first : r.firsts ≡ listed max_nonterminals (first_number k (grammar_of words))
@@ -60,7 +59,7 @@ pub record Claimed (k : Lookahead) (words : List ℕ) (z : Sizes) (r : Claims) :
   pub claims : r.sets ≡ by_rule (claim_numbers k (grammar_of words))
   pub told : r.overruns ≡ overruns_of k (grammar_of words)
 
-pub claims_told : (k : Lookahead) (words : List ℕ) {r : Claims} → r ≡ claims_of k words → {z : Sizes} → r.finding ≡ Passed z → Claimed k words z r
+pub claims_told : (k : Lookahead) (words : List ℕ) {r : Claims} → r ≡ claims_of k words → {z : Sizes} → r.finding ≡ Ok z → Claimed k words z r
 unfolding claims_of
 claims_told k words e q =
     let p = told_passed (sets_fault k words) (admission k words) (sym (ap (λ x. x.finding) e) ∙ q) in

@@ -1,4 +1,5 @@
 -- A conjunct follows the begin of each rule of a grammar that has been read, and the rule has no positives just where it is negative.
+use Rattle.std.specs.Prelude.{Ok}
 use mathlib.Core.Path.{◌≡◌, refl, ◌∙◌}
 use mathlib.Core.Bool.{true, false≢true}
 use mathlib.Core.List.{List, []}
@@ -13,7 +14,6 @@ use Rattle.word.specs.Words.{decoded}
 use Rattle.grammar.specs.declared.reading.State.{State}
 use Rattle.grammar.specs.declared.reading.State.TheVariants.{Opened}
 use Rattle.grammar.specs.declared.reading.Sizes.{Sizes}
-use Rattle.grammar.specs.declared.reading.Reading.TheVariants.{Read}
 use Rattle.grammar.specs.Encoding.{Parsed, on_word, parse}
 use Rattle.grammar.specs.Reading.{allows, begins_rule, state_after, reading}
 use Rattle.grammar.specs.inner.Starts.{rule_starts}
@@ -51,7 +51,7 @@ negative_alone End p a s = absurd (false≢true a)
 negative_alone (Heading n t) p a s = absurd (false≢true a)
 negative_alone Invalid p a s = absurd (false≢true a)
 
-module _ (words : List ℕ) {z : Sizes} (read : reading words ≡ Read z) where
+module _ (words : List ℕ) {z : Sizes} (read : reading words ≡ Ok z) where
   -- behind a word that begins a rule
   behind_begin : (i : ℕ) → 0 < i → i < length words → begins_rule (decoded (get_or words i 0)) ≡ true
       → (i + 1 < length words) × (begins_negative (decoded (get_or words (i + 1) 0)) ≡ without (parse (drop (i + 1) words)).positives)

@@ -1,4 +1,5 @@
 -- The rules are gone over from the first on: each has its head and its claim kept.
+use Rattle.std.specs.Prelude.{Ok}
 use mathlib.Core.Path.{◌≡◌, refl, sym, ap, ◌∙◌}
 use mathlib.Core.Bool.{true}
 use mathlib.Core.List.{List, map}
@@ -9,11 +10,12 @@ use lib.ListN.{length, get_or, set}
 use Rattle.word.specs.declared.Word.{Word}
 use Rattle.word.specs.Words.{decoded}
 use Rattle.grammar.specs.declared.reading.Sizes.{Sizes}
-use Rattle.grammar.specs.declared.reading.Reading.TheVariants.{Read}
 use Rattle.grammar.specs.Limits.{max_nonterminals, max_rules}
 use Rattle.grammar.specs.Syntax.{Rule}
 use Rattle.grammar.specs.Encoding.{grammar_of}
 use Rattle.grammar.specs.Reading.{reading}
+use Rattle.grammar.specs.inner.Starts.{rule_starts}
+use Rattle.admission.specs.Admission.{admission}
 use Rattle.grammar.specs.inner.WellRead.{head_of, WellRead}
 use Rattle.grammar.proofs.WellRead.{well_read}
 use Rattle.lookahead.specs.declared.Lookahead.{Lookahead}
@@ -27,9 +29,9 @@ use Rattle.families.specs.inner.RuleLists.{by_rule}
 use Rattle.families.specs.inner.Rules.{ByRules, PassGiven}
 use Rattle.families.specs.Sets.{follow_number}
 use Rattle.families.specs.inner.Sets.{meet_number}
-use Rattle.families.proofs.ByRules.{FilledTo, filled_none, filled_next, filled_each, by_rule_is, by_rule_at}
+use Rattle.families.proofs.ByRules.{FilledTo, filled_next, filled_each, by_rule_is, by_rule_at}
 use Rattle.families.proofs.FewTerminals.{admitted_read, few_terminals_lem}
-use Rattle.families.proofs.HeadPasses.{rule_numbered, its_head as pass_head, its_start, head_below}
+use Rattle.families.proofs.HeadPasses.{rule_numbered, pass_first, its_head as pass_head, its_start, head_below}
 use Rattle.base.proofs.Lists.{listed_long}
 use Rattle.families.proofs.Numbers.{array_at}
 use Rattle.claims.specs.inner.Claims.{claim_number, FamiliesGiven, AllKept}
@@ -42,20 +44,25 @@ head_by words q = (rule_numbered words q).head
 abbrev pub claim_by : Lookahead → List ℕ → ℕ → ℕ
 claim_by k words q = claim_number k (grammar_of words) (rule_numbered words q)
 
+-- where a rule and its head stand, each fact on numbers by itself
+module _ (k : Lookahead) (words : List ℕ) (z : Sizes) (read : admission k words ≡ Ok z) where
+  pub few_rules : z.rules ≤ max_rules
+  few_rules = (well_read words z (admitted_read k words read)).few_rules
+
+  module _ (starts : List ℕ) (rule : ℕ) (begins : starts ≡ rule_starts words) (h : rule < z.rules) where
+    pub start_inside : get_or starts rule 0 < length words
+    start_inside = its_start (pass_first (admitted_read k words read) begins) true h refl
+
+    pub head_few : (w : Word) (head : ℕ) → w ≡ decoded (get_or words (get_or starts rule 0) 0) → head ≡ head_of w → head < max_nonterminals
+    head_few w head e f = head_below (pass_first (admitted_read k words read) begins) true h refl e f
+
 -- the invariant: the rules before i have had their heads and claims kept
 pub record Keeping (k : Lookahead) (words : List ℕ) (n : ℕ) (heads sets : List ℕ) (i : ℕ) : Type 0 where
   pub own : FilledTo (head_by words) n true heads i
   pub claims : FilledTo (claim_by k words) n true sets i
 
-pub keeping_start : (k : Lookahead) (words : List ℕ) {n : ℕ} {heads sets : List ℕ} → ByRules n heads → ByRules n sets → Keeping k words n heads sets 0
-keeping_start k words {n} {heads} {sets} h s = record {
-  own = filled_none (head_by words) n true heads h;
-  claims = filled_none
-      (claim_by k words) n true sets s;
-}
-
 module _ {k : Lookahead} {words : List ℕ} {z : Sizes} {starts meets follows : List ℕ} (g : FamiliesGiven k words z starts meets follows) where
-  pub read : reading words ≡ Read z
+  pub read : reading words ≡ Ok z
   read = admitted_read k words g.read
 
   known : WellRead words z
@@ -63,9 +70,6 @@ module _ {k : Lookahead} {words : List ℕ} {z : Sizes} {starts meets follows : 
 
   pub few : (grammar_of words).terminals ≤ alphabet k
   few = few_terminals_lem k words g.read
-
-  pub few_rules_lem : z.rules ≤ max_rules
-  few_rules_lem = known.few_rules
 
   pub follow_is : (A : ℕ) → get_or follows A 0 ≡ follow_number k (grammar_of words) A
   unfolding follow_number
@@ -79,13 +83,7 @@ module _ {k : Lookahead} {words : List ℕ} {z : Sizes} {starts meets follows : 
 
   -- the rule that has its turn
   module _ {i : ℕ} (h : i < z.rules) where
-    pub start_inside : get_or starts i 0 < length words
-    start_inside = its_start pass true h refl
-
     module _ {w : Word} {head : ℕ} (e : w ≡ decoded (get_or words (get_or starts i 0) 0)) (f : head ≡ head_of w) where
-      pub head_few : head < max_nonterminals
-      head_few = head_below pass true h refl e f
-
       its_head : head ≡ head_by words i
       its_head = pass_head pass true h refl e f
 
@@ -102,8 +100,8 @@ module _ {k : Lookahead} {words : List ℕ} {z : Sizes} {starts meets follows : 
           → claim ≡ concat_numbers k (get_or meets i 0) (get_or follows head 0) → heads' ≡ set heads i head → sets' ≡ set sets i claim
           → Keeping k words z.rules heads' sets' (i + 1)
       keeping_next {claim = claim} v c a b = record {
-        own = filled_next true head few_rules_lem v.own h a its_head;
-        claims = filled_next true claim few_rules_lem v.claims h b (its_claim c);
+        own = filled_next true head known.few_rules v.own h a its_head;
+        claims = filled_next true claim known.few_rules v.claims h b (its_claim c);
       }
 
   -- all rules have had their turn

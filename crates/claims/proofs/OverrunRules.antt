@@ -1,7 +1,8 @@
 -- The rules are gone over from the last on: each without positives has the first terminal told of its head if that overruns.
+use Rattle.std.specs.Prelude.{Ok}
 use mathlib.Core.Path.{subst, ◌≡◌, refl, sym, ap, ◌∙◌}
 use mathlib.Core.Bool.{Bool, true, false, ◌&&◌, ◌||◌}
-use mathlib.Core.List.{List, [], ◌∷◌}
+use mathlib.Core.List.{List, [], ◌∷◌, map}
 use mathlib.Core.Option.{some}
 use Prim.Native.Nat.{ℕ, zero, suc, ◌+◌, ◌-◌, ◌≤◌, ◌<◌}
 use native.Mathlib.Decide.{ℕ_discrete}
@@ -14,10 +15,12 @@ use Rattle.base.specs.Quantifiers.{any_of}
 use Rattle.word.specs.declared.Word.{Word}
 use Rattle.word.specs.Words.{decoded}
 use Rattle.grammar.specs.declared.reading.Sizes.{Sizes}
-use Rattle.grammar.specs.Limits.{max_nonterminals, max_rules}
+use Rattle.grammar.specs.Limits.{max_nonterminals}
 use Rattle.grammar.specs.Syntax.{Rule}
 use Rattle.grammar.specs.Encoding.{grammar_of}
-use Rattle.grammar.specs.inner.WellRead.{WellRead}
+use Rattle.grammar.specs.Reading.{reading}
+use Rattle.grammar.specs.inner.Starts.{rule_starts}
+use Rattle.families.specs.inner.RuleLists.{by_rule}
 use Rattle.grammar.proofs.WellRead.{well_read}
 use Rattle.admission.specs.Admission.{begins_negative}
 use Rattle.lookahead.specs.declared.Lookahead.{Lookahead}
@@ -81,43 +84,43 @@ nth_drop (x ∷ l) (suc q) r e = nth_drop l q r e
 pub record Telling (k : Lookahead) (words follows overruns : List ℕ) (i : ℕ) : Type 0 where
   pub told : Overrunning k (drop i (grammar_of words).rules) follows overruns
 
+-- where a rule and its head stand, each fact on numbers by itself
+module _ (words starts : List ℕ) (z : Sizes) (rule : ℕ) (read : reading words ≡ Ok z) where
+  pub conjunct_inside : starts ≡ rule_starts words → rule < z.rules → get_or starts rule 0 + 1 < length words
+  conjunct_inside b h = rw b (first_conjunct words read rule h).0
+
+  numbered : rule < z.rules → get_elem? (grammar_of words).rules rule ≡ some (rule_numbered words rule)
+  numbered h = (well_read words z read).begins rule h
+
+  its_head : (heads : List ℕ) → heads ≡ by_rule (map (λ r. r.head) (grammar_of words).rules) → rule < z.rules
+      → get_or heads rule 0 ≡ (rule_numbered words rule).head
+  its_head heads o h = rw o (by_rule_at (λ r. r.head) (grammar_of words).rules rule _ (numbered h))
+
+  pub head_few : (heads : List ℕ) → heads ≡ by_rule (map (λ r. r.head) (grammar_of words).rules) → rule < z.rules
+      → get_or heads rule 0 < max_nonterminals
+  head_few heads o h =
+      let known = well_read words z read in
+      let m = nth_mem (grammar_of words).rules rule _ (numbered h) in
+      omega (arith, its_head heads o h, known.formed.scoped.heads _ m, known.few_nonterminals, known.nonterminals)
+
 module _ {words starts heads : List ℕ} {z : Sizes} (g : HeadsGiven words starts heads z) where
-  known : WellRead words z
-  known = well_read words z g.read
-
   -- the rule that has its turn
-  module _ {i : ℕ} (h : 0 < i) (b : i ≤ z.rules) where
-    pub conjunct_inside : get_or starts (i - 1) 0 + 1 < length words
-    conjunct_inside = rw g.begins (first_conjunct words g.read (i - 1) (omega arith)).0
-
-    pub rule_few : i - 1 < max_rules
-    rule_few = omega (arith, known.few_rules)
-
-    its_head : get_or heads (i - 1) 0 ≡ (rule_numbered words (i - 1)).head
-    its_head = rw g.own (by_rule_at (λ r. r.head) (grammar_of words).rules (i - 1) _ (known.begins (i - 1) (omega arith)))
-
-    pub head_few : get_or heads (i - 1) 0 < max_nonterminals
-    head_few =
-        let m = nth_mem (grammar_of words).rules (i - 1) _ (known.begins (i - 1) (omega arith)) in
-        omega (arith, its_head, known.formed.scoped.heads _ m, known.few_nonterminals, known.nonterminals)
-
-    pub telling_turn : {k : Lookahead} {follows before after : List ℕ} {w : Word} {alone : Bool} {v : ℕ} → Telling k words follows before i
-        → w ≡ decoded (get_or words (get_or starts (i - 1) 0 + 1) 0) → alone ≡ begins_negative w
-        → v ≡ choose (alone && beyond_end k (get_or follows (get_or heads (i - 1) 0) 0)) (terminal k 0) (get_or before (get_or heads (i - 1) 0) 0)
-        → after ≡ set before (get_or heads (i - 1) 0) v → Telling k words follows after (i - 1)
-    telling_turn {k} {follows} {before} {after} {w} {alone} {v} t e a d s =
-        let r = rule_numbered words (i - 1) in
-        let next : suc (i - 1) ≡ i = omega arith in
-        let rules : drop (i - 1) (grammar_of words).rules ≡ r ∷ drop i (grammar_of words).rules =
-        nth_drop (grammar_of words).rules (i - 1) r (known.begins (i - 1) (omega arith)) ∙ ap (λ n. r ∷ drop n (grammar_of words).rules) next in
-        let negative : alone ≡ without r.positives = a ∙ rw (e, g.begins) (first_conjunct words g.read (i - 1) (omega arith)).1 in
-        let own : r.head < max_nonterminals = omega (arith, head_few, its_head) in
-        record { told = rw rules (overrun_rule r t.told own (s ∙ rw (d, negative, its_head))) }
+  pub telling_turn : {i : ℕ} → 0 < i → i ≤ z.rules → {k : Lookahead} {follows before after : List ℕ} {w : Word} {alone : Bool} {v : ℕ}
+      → Telling k words follows before i
+      → w ≡ decoded (get_or words (get_or starts (i - 1) 0 + 1) 0) → alone ≡ begins_negative w
+      → v ≡ choose (alone && beyond_end k (get_or follows (get_or heads (i - 1) 0) 0)) (terminal k 0) (get_or before (get_or heads (i - 1) 0) 0)
+      → after ≡ set before (get_or heads (i - 1) 0) v → Telling k words follows after (i - 1)
+  telling_turn {i} h b {k} {follows} {before} {after} {w} {alone} {v} t e a d s =
+      let low : i - 1 < z.rules = omega arith in
+      let r = rule_numbered words (i - 1) in
+      let next : suc (i - 1) ≡ i = omega arith in
+      let rules : drop (i - 1) (grammar_of words).rules ≡ r ∷ drop i (grammar_of words).rules =
+      nth_drop (grammar_of words).rules (i - 1) r (numbered words starts z (i - 1) g.read low) ∙ ap (λ n. r ∷ drop n (grammar_of words).rules) next in
+      let negative : alone ≡ without r.positives = a ∙ rw (e, g.begins) (first_conjunct words g.read (i - 1) low).1 in
+      let its = its_head words starts z (i - 1) g.read heads g.own low in
+      let own : r.head < max_nonterminals = omega (arith, head_few words starts z (i - 1) g.read heads g.own low, its) in
+      record { told = rw rules (overrun_rule r t.told own (s ∙ rw (d, negative, its))) }
 
   pub telling_start : (k : Lookahead) (follows : List ℕ) → Telling k words follows (replicate max_nonterminals 0) z.rules
   telling_start k follows =
-      record { told = rw (drop_of_length-le (grammar_of words).rules {i = z.rules} (omega (arith, known.rules))) (overrun_none k follows) }
-
-pub telling_end : {k : Lookahead} {words follows overruns : List ℕ} {i : ℕ} → Telling k words follows overruns i → i ≤ 0
-    → Overrunning k (grammar_of words).rules follows overruns
-telling_end {i = i} t h = let e : i ≡ 0 = omega arith in rw e at t.told
+      record { told = rw (drop_of_length-le (grammar_of words).rules {i = z.rules} (omega (arith, (well_read words z g.read).rules))) (overrun_none k follows) }

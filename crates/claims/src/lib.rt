@@ -6,8 +6,9 @@ ghost use Rattle.families.specs.inner.Rules.{ByRules};
 ghost use Rattle.grammar.specs.Encoding.{grammar_of};
 ghost use Rattle.claims.specs.inner.Claims.{claims_with, claims_of, FamiliesGiven, AllKept};
 
+use answer::Error;
 use concatenation::concat;
-use families::{Finding, SETS};
+use families::SETS;
 use grammar::limits::RULES;
 use grammar::reading::Sizes;
 use lookahead::Lookahead;
@@ -20,6 +21,7 @@ mod overruns;
 
 // Keeps for each rule of a grammar that is admitted, where zeros stand, its head and what its positives' meet, and then what may follow the
 // head, begins with.
+#[tactic(auto, using(crate::proofs::KeptClaims::few_rules, crate::proofs::KeptClaims::start_inside))]
 fn keep_claims<'a>(
     words: &[u32],
     sizes: Sizes,
@@ -34,8 +36,7 @@ fn keep_claims<'a>(
         × ByRules sizes.rules heads.old × ByRules sizes.rules sets.old }
     ensures { AllKept lookahead (grammar_of words.now) heads.new sets.new }
 {
-    let mut rule = 0;
-    while rule < sizes.rules {
+    for rule in 0..sizes.rules {
         let head = head_of(decode(words[starts[rule]]));
         let meet = LookaheadSet { bits: meets[rule] };
         let follow = LookaheadSet {
@@ -43,7 +44,6 @@ fn keep_claims<'a>(
         };
         heads[rule] = head as u8;
         sets[rule] = concat(meet, lookahead, follow).bits;
-        rule = rule + 1;
     }
 }
 
@@ -58,7 +58,7 @@ pub fn analyze(
     heads: &mut [u8; RULES],
     sets: &mut [u64; RULES],
     overruns: &mut [u64; SETS],
-) -> Finding
+) -> Result<Sizes, Error>
     ensures { claims_with result starts.new firsts.new follows.new heads.new sets.new
         overruns.new ≡ claims_of lookahead words.now }
 {
@@ -70,7 +70,7 @@ pub fn analyze(
     *heads = [0u8; RULES];
     *sets = [0u64; RULES];
     *overruns = [0u64; SETS];
-    if let Finding::Passed(sizes) = finding {
+    if let Ok(sizes) = finding {
         keep_claims(
             words,
             sizes,

@@ -13,6 +13,7 @@ use word::decode;
 
 // Goes over the rules from the last on: a set for each nonterminal, with the first terminal where it overruns, else empty. A rule whose first
 // conjunct is negative has no positives.
+#[tactic(auto, using(crate::proofs::OverrunRules::conjunct_inside, families::proofs::RulePlaces::few_rules, crate::proofs::OverrunRules::head_few))]
 pub(crate) fn overrunning<'a>(
     words: &[u32],
     sizes: Sizes,
@@ -25,12 +26,10 @@ pub(crate) fn overrunning<'a>(
     ensures { Overrunning lookahead (grammar_of words.now).rules follows.now result }
 {
     let mut overruns = [0u64; SETS];
-    let mut rule = sizes.rules;
-    while 0 < rule {
-        rule = rule - 1;
+    for rule in (0..sizes.rules).rev() {
         let conjunct = starts[rule] + 1;
         let alone = begins_negative(decode(words[conjunct]));
-        let head = heads[rule] as usize;
+        let head = usize::from(heads[rule]);
         let follow = LookaheadSet {
             bits: follows[head],
         };

@@ -2,19 +2,19 @@
 ghost use Rattle.std.specs.Prelude.{◌≡◌};
 ghost use Rattle.client_records.specs.inner.Charges.{allowed_by};
 
-use answer::{Answer, Error};
+use answer::Error;
 use client_records::{CLIENTS, is_exhausted};
 use usage::Usage;
 
-pub fn allowance(usages: [Usage; CLIENTS], client: u32, share: u32, limit: u32) -> Answer
+pub fn allowance(usages: [Usage; CLIENTS], client: u32, share: u32, limit: u32) -> Result<(), Error>
     ensures { result ≡ allowed_by client share limit usages }
 {
     if CLIENTS <= client as usize {
-        return Answer::Refused(Error::UnknownClient);
+        return Err(Error::UnknownClient);
     }
     let own = usages[client as usize];
     if is_exhausted(usages, own, share, limit) {
-        return Answer::Refused(Error::QuotaReached);
+        return Err(Error::QuotaReached);
     }
-    Answer::Passed
+    Ok(())
 }

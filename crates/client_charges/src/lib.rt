@@ -11,18 +11,13 @@ use usage::Usage;
 pub mod allowance;
 
 // Counts an answer in the record of its client; an answer to no client is counted nowhere.
-pub fn charge(usages: [Usage; CLIENTS], client: u32, answer: Answer) -> Served
+#[tactic(auto, unfolding(client_records::specs::Usages::charged))]
+pub fn charge(mut usages: [Usage; CLIENTS], client: u32, answer: Answer) -> Served
     ensures { result ≡ served_with client answer usages }
 {
-    if CLIENTS <= client as usize {
-        return Served { answer, usages };
-    }
     let at = client as usize;
-    let own = usages[at];
-    let mut next = usages;
-    next[at] = own.after(answer);
-    Served {
-        answer,
-        usages: next,
+    if at < CLIENTS {
+        usages[at] = usages[at].after(answer);
     }
+    Served { answer, usages }
 }

@@ -2,33 +2,20 @@
 use mathlib.Core.Path.{◌≡◌, refl, sym, ap, ◌∙◌}
 use mathlib.Core.Bool.{Bool, true, false, ◌&&◌, true≢false}
 use mathlib.Core.List.{List}
-use Prim.Native.Nat.{ℕ, ◌≤◌, ◌<◌}
+use Prim.Native.Nat.{ℕ, ◌<◌}
 use native.Mathlib.Omega.{arith}
 use lib.Dec.{leb, ltb}
 use lib.ListN.{length, set}
 use lib.Seq.{get_or-set_same, get_or-set_other}
-use borrow.Author.Tests.{le-leb, lt-leb, leb-true, lt-ltb, le-ltb}
-use Rattle.answer.specs.declared.Error.TheVariants.{UnknownClient, QuotaReached}
+use borrow.Author.Tests.{le-leb, leb-true, lt-ltb}
 use Rattle.answer.specs.declared.Answer.{Answer}
-use Rattle.answer.specs.declared.Answer.TheVariants.{Refused, Passed}
 use Rattle.base.specs.Choice.{choose}
 use Rattle.usage.specs.declared.Usage.{Usage}
 use Rattle.usage.specs.Counters.{unused}
 use Rattle.usage.specs.Histories.{counted_answer}
-use Rattle.client_records.specs.declared.totals.Totals.{Totals}
-use Rattle.client_records.specs.Usages.{clients, usage_of_client, called_by, sum_below, charged, exhausted, UsedUp, Charges}
-use Rattle.client_records.specs.Sums.{Totalled}
-use Rattle.client_records.specs.inner.Charges.{allowed_by, served_with}
+use Rattle.client_records.specs.Usages.{clients, usage_of_client, sum_below, charged, exhausted, UsedUp, Charges}
 
--- the test of an allowance, by its first part
-pub share_reached : {t : Totals} (us : List Usage) (own share limit : ℕ) → share ≤ own → Totalled us t
-    → leb limit t.called ≡ exhausted own share (sum_below clients (called_by us)) limit
-share_reached us own share limit h t = rw (le-leb share own h, t.sums)
-
-pub share_not_reached : (us : List Usage) (own share limit : ℕ) → own < share → false ≡ exhausted own share (sum_below clients (called_by us)) limit
-share_not_reached us own share limit h = rw (lt-leb share own h)
-
--- what it tells
+-- what the test of an allowance tells
 module _ (client share limit : ℕ) (f : ℕ → ℕ) where
   pub used_up : client < clients → exhausted (f client) share (sum_below clients f) limit ≡ true → UsedUp client share limit f
   used_up h e = go (leb share (f client)) (leb limit (sum_below clients f)) refl refl e
@@ -41,29 +28,8 @@ module _ (client share limit : ℕ) (f : ℕ → ℕ) where
   pub exhausted_true : UsedUp client share limit f → exhausted (f client) share (sum_below clients f) limit ≡ true
   exhausted_true (h, s, t) = rw (le-leb share (f client) s, le-leb limit (sum_below clients f) t)
 
--- what is answered before a log is judged, by the tests
-module _ (client share limit : ℕ) (us : List Usage) where
-  pub allowed_nobody : clients ≤ client → Refused UnknownClient ≡ allowed_by client share limit us
-  allowed_nobody h = rw (le-leb clients client h)
-
-  module _ {b : Bool} (h : client < clients) (e : b ≡ exhausted (called_by us client) share (sum_below clients (called_by us)) limit) where
-    pub allowed_none : b ≡ true → Refused QuotaReached ≡ allowed_by client share limit us
-    allowed_none t = rw (lt-leb clients client h, sym e ∙ t)
-
-    pub allowed_one : b ≡ false → Passed ≡ allowed_by client share limit us
-    allowed_one t = rw (lt-leb clients client h, sym e ∙ t)
-
 -- an answer to a client
 module _ (client : ℕ) (x : Answer) (us : List Usage) where
-  pub charged_nobody : clients ≤ client → record { answer = x; usages = us } ≡ served_with client x us
-  unfolding charged
-  charged_nobody h = rw (le-ltb client clients h)
-
-  pub charged_client : {u : Usage} → client < clients → u ≡ counted_answer (usage_of_client us client) x
-      → record { answer = x; usages = set us client u } ≡ served_with client x us
-  unfolding charged
-  charged_client h e = rw (lt-ltb client clients h, e)
-
   charged_own : client < clients → length us ≡ clients → usage_of_client (charged client x us) client ≡ counted_answer (usage_of_client us client) x
   unfolding charged
   charged_own h e = rw (lt-ltb client clients h) (get_or-set_same us client _ unused (omega arith))

@@ -1,14 +1,14 @@
 -- Sums over the clients, one client more at a time: no sum of counters of 32 bits wraps.
 use mathlib.Core.Path.{◌≡◌, refl, ◌∙◌}
 use mathlib.Core.List.{List}
-use Prim.Native.Nat.{ℕ, zero, suc, ◌+◌, ◌*◌, ◌≤◌, ◌<◌}
+use Prim.Native.Nat.{ℕ, zero, suc, ◌+◌, ◌*◌, ◌<◌}
 use native.Mathlib.Numerals.{add-one}
 use native.Mathlib.Omega.{arith}
 use Rattle.usage.specs.declared.Usage.{Usage}
 use Rattle.usage.specs.Counters.{counter_limit, saturated}
 use Rattle.client_records.specs.declared.totals.Totals.{Totals}
 use Rattle.client_records.specs.Usages.{clients, usage_of_client, sum_below}
-use Rattle.client_records.specs.Sums.{totals_of, Totalled}
+use Rattle.client_records.specs.Sums.{totals_of}
 use Rattle.client_records.specs.inner.Sums.{TotalsSmall, AddsUsage, SummedUp}
 
 pub nothing_summed : (us : List Usage) → SummedUp us 0 (totals_of 0 0 0 0)
@@ -42,9 +42,6 @@ module _ {us : List Usage} {n : ℕ} {t : Totals} (s : SummedUp us n t) where
           called = omega (arith, w.called);
         };
       }
-
-  pub all_summed : clients ≤ n → Totalled us t
-  all_summed h = let e : n ≡ clients = omega (arith, s.few) in record { sums = rw e at s.sums; within = rw e at s.within }
 
 -- sums of numbers that are alike
 pub sum_alike : (n : ℕ) (f g : ℕ → ℕ) → ((k : ℕ) → f k ≡ g k) → sum_below n f ≡ sum_below n g

@@ -13,8 +13,8 @@ pub mod totals;
 // Clients are numbered from 0 (document 02: boxes).
 pub const CLIENTS: usize = 8;
 
-// An answer, and the clients' records with it counted.
-#[derive(Drop)]
+// An answer, and the clients' records with it counted. They go by value: a refusal is counted too, and changes no lent memory.
+#[derive(Clone, Copy)]
 pub struct Served {
     pub answer: Answer,
     pub usages: [Usage; CLIENTS],
@@ -24,18 +24,12 @@ pub struct Served {
 pub fn no_usage() -> [Usage; CLIENTS]
     ensures { result ≡ nobody }
 {
-    let none = Usage::new();
-    [none; CLIENTS]
+    [Usage::new(); CLIENTS]
 }
 
 // Whether a client's descents have called as much as its share, and those of all clients as much as the limit.
 pub fn is_exhausted(usages: [Usage; CLIENTS], own: Usage, share: u32, limit: u32) -> bool
     ensures { result ≡ exhausted own.called share (sum_below clients (called_by usages)) limit }
 {
-    let all = total(usages);
-    let limit_reached = limit as u64 <= all.called;
-    if own.called < share {
-        return false;
-    }
-    limit_reached
+    share <= own.called && u64::from(limit) <= total(usages).called
 }

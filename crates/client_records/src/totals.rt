@@ -5,7 +5,7 @@ ghost use Rattle.client_records.specs.Sums.{Totalled};
 use super::CLIENTS;
 use usage::Usage;
 
-#[derive(Clone, Copy)]
+#[derive(Clone, Copy, Default)]
 pub struct Totals {
     pub calls: u64,
     pub refusals: u64,
@@ -20,10 +20,10 @@ impl Totals {
         ensures { AddsUsage self usage result }
     {
         Totals {
-            calls: self.calls + usage.calls as u64,
-            refusals: self.refusals + usage.refusals as u64,
-            acceptances: self.acceptances + usage.acceptances as u64,
-            called: self.called + usage.called as u64,
+            calls: self.calls + u64::from(usage.calls),
+            refusals: self.refusals + u64::from(usage.refusals),
+            acceptances: self.acceptances + u64::from(usage.acceptances),
+            called: self.called + u64::from(usage.called),
         }
     }
 }
@@ -31,17 +31,9 @@ impl Totals {
 pub fn total(usages: [Usage; CLIENTS]) -> Totals
     ensures { Totalled usages result }
 {
-    let mut all = Totals {
-        calls: 0,
-        refusals: 0,
-        acceptances: 0,
-        called: 0,
-    };
-    let mut client = 0;
-    while client < CLIENTS {
-        let usage = usages[client];
+    let mut all = Totals::default();
+    for usage in usages {
         all = all.plus(usage);
-        client = client + 1;
     }
     all
 }

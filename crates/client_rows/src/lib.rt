@@ -30,6 +30,7 @@ fn usage_at(row: [u32; ROW], client: usize) -> Usage
     }
 }
 
+// One element after the other, as its promise names them: `array::from_fn` would take a proof by index.
 pub fn usages_in(row: [u32; ROW]) -> [Usage; CLIENTS]
     ensures { result ≡ usages_in row }
 {
@@ -49,15 +50,12 @@ fn row_of(usages: [Usage; CLIENTS]) -> [u32; ROW]
     ensures { usages_in result ≡ usages }
 {
     let mut row = [0; ROW];
-    let mut client = 0;
-    while client < CLIENTS {
-        let usage = usages[client];
+    for (client, usage) in usages.iter().enumerate() {
         let at = client * COUNTERS;
         row[at] = usage.calls;
         row[at + 1] = usage.refusals;
         row[at + 2] = usage.acceptances;
         row[at + 3] = usage.called;
-        client = client + 1;
     }
     row
 }
@@ -77,18 +75,13 @@ fn totals_row(totals: Totals) -> [u64; COUNTERS]
 pub fn totals_in(row: [u32; ROW]) -> [u64; COUNTERS]
     ensures { TotalsExported row result }
 {
-    let usages = usages_in(row);
-    let all = total(usages);
-    totals_row(all)
+    totals_row(total(usages_in(row)))
 }
 
 // Writes the records that are handed back into a row, and gives the answer packed.
 pub fn hand_back(served: Served, row: &mut [u32; ROW]) -> u64
     ensures { HandedBack served result row.new }
 {
-    let answer = served.answer;
-    let usages = served.usages;
-    let new = row_of(usages);
-    *row = new;
-    pack(answer)
+    *row = row_of(served.usages);
+    pack(served.answer)
 }

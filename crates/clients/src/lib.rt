@@ -25,10 +25,9 @@ pub fn judge_for(
     ensures { JudgesFor client share limit words.now (input_of events.now) table.old memo.old usages result
         table.new memo.new }
 {
-    let allowed = allowance(usages, client, share, limit);
-    let Answer::Passed = allowed else {
-        return charge(usages, client, allowed);
-    };
+    if let Err(error) = allowance(usages, client, share, limit) {
+        return charge(usages, client, Answer::Refused(error));
+    }
     let answer = judge(words, events, table, memo);
     charge(usages, client, answer)
 }

@@ -4,18 +4,17 @@ use mathlib.Core.Bool.{Bool, true, false, true≢false}
 use mathlib.Core.List.{List, [], ◌∷◌}
 use mathlib.Core.Logic.{◌↔◌}
 use mathlib.Core.Option.{Option, none, some}
-use denote.Enum.Declared.{tag_of}
 use Prim.Native.Nat.{ℕ, ◌≤◌, ◌<◌}
 use native.Mathlib.Omega.{arith}
 use lib.Dec.{leb}
 use lib.ListN.{length}
 use borrow.Author.Tests.{le-leb, lt-leb, leb-true, leb-false}
+use Rattle.std.specs.Prelude.{Result, Ok, Err}
 use Rattle.answer.specs.declared.Error.{Error}
 use Rattle.answer.specs.declared.Error.TheVariants.{UnknownClient, QuotaReached}
 use Rattle.answer.specs.declared.Answer.{Answer}
-use Rattle.answer.specs.declared.Answer.TheVariants.{Refused, Passed}
+use Rattle.answer.specs.declared.Answer.TheVariants.{Refused}
 use Rattle.answer.specs.Faults.{first_fault}
-use Rattle.answer.specs.contracts.Answer.{the_type}
 use Rattle.answer.proofs.Apart.{answer_number_lem}
 use Rattle.base.specs.Choice.{choose}
 use Rattle.grammar.specs.Encoding.{grammar_of}
@@ -37,6 +36,9 @@ use Rattle.clients_promises.specs.Properties.{client_fault, JudgesFor}
 use Rattle.clients_promises.proofs.Codes.{never_judged}
 use Rattle.client_records.proofs.Charging.{used_up, exhausted_true, charges}
 use Rattle.clients_promises.proofs.Histories.{exactly_stops, used_up_alike, continues_with, of_the_day_with}
+
+err_no_ok : {r : Result (Unit {0}) Error} {x : Error} → r ≡ Err x → r ≡ Ok tt → ⊥
+err_no_ok p q = cc
 
 alone : (f : Option Error) → first_fault (f ∷ []) ≡ f
 alone none = refl
@@ -127,28 +129,32 @@ module _ (client share limit : ℕ) (us : List Usage) (eight : length us ≡ cli
       refl
 
   -- by what is answered before it is judged
-  module _ {allowed : Answer} (e : allowed ≡ allowed_by client share limit us) where
-    pub turned_away_served : {r : Served} → (allowed ≡ Passed → ⊥) → r ≡ served_with client allowed us
+  module _ {allowed : Result (Unit {0}) Error} (e : allowed ≡ allowed_by client share limit us) where
+    pub turned_away_served : {x : Error} {r : Served} → allowed ≡ Err x → r ≡ served_with client (Refused x) us
         → JudgesFor client share limit words input table memo us r table memo
-    turned_away_served {r} t d = go (leb clients client) reached_before refl refl e
+    turned_away_served {x} {r} t d = go (leb clients client) reached_before refl refl e
       where
         go : (u q : Bool) → leb clients client ≡ u → reached_before ≡ q
-            → allowed ≡ choose u (Refused UnknownClient) (choose q (Refused QuotaReached) Passed)
+            → allowed ≡ choose u (Err UnknownClient) (choose q (Err QuotaReached) (Ok tt))
             → JudgesFor client share limit words input table memo us r table memo
-        go true q h b z = rw (d, z) (unknown_client (leb-true clients client h))
-        go false true h b z = rw (d, z) (quota_reached (leb-false clients client h) b)
-        go false false h b z = absurd (t z)
+        go true q h b z =
+            let unknown : x ≡ UnknownClient = cc in
+            rw (d, unknown) (unknown_client (leb-true clients client h))
+        go false true h b z =
+            let quota : x ≡ QuotaReached = cc in
+            rw (d, quota) (quota_reached (leb-false clients client h) b)
+        go false false h b z = absurd (err_no_ok t z)
 
-    pub let_through_served : {a : Answer} {r : Served} {table' memo' : List ℕ} → tag_of the_type allowed ≡ 1
+    pub let_through_served : {a : Answer} {r : Served} {table' memo' : List ℕ} → ((x : Error) → allowed ≡ Err x → ⊥)
         → Judges One words input table memo a table' memo' → r ≡ served_with client a us
         → JudgesFor client share limit words input table memo us r table' memo'
     let_through_served {a} {r} {table'} {memo'} t j d = go (leb clients client) reached_before refl refl e
       where
         go : (u q : Bool) → leb clients client ≡ u → reached_before ≡ q
-            → allowed ≡ choose u (Refused UnknownClient) (choose q (Refused QuotaReached) Passed)
+            → allowed ≡ choose u (Err UnknownClient) (choose q (Err QuotaReached) (Ok tt))
             → JudgesFor client share limit words input table memo us r table' memo'
-        go true q h b z = let n : ◌≡◌ {A = ℕ} 0 1 = rw z at t in absurd (omega arith)
-        go false true h b z = let n : ◌≡◌ {A = ℕ} 0 1 = rw z at t in absurd (omega arith)
+        go true q h b z = absurd (t UnknownClient z)
+        go false true h b z = absurd (t QuotaReached z)
         go false false h b z = rw d (judged (leb-false clients client h) b j)
 
 -- the answer, both memories and the records handed back are settled by the input, so directions change nothing

@@ -2,7 +2,7 @@
 use mathlib.Core.Path.{◌≡◌, refl, sym, ap, ◌∙◌}
 use mathlib.Core.Bool.{Bool, true, false, ◌&&◌, and-true, and-false}
 use mathlib.Core.List.{[], ◌∷◌}
-use Prim.Native.Nat.{ℕ, ◌+◌, ◌-◌, ◌*◌, ◌/◌, ◌%◌, ◌^◌, ◌≤◌, ◌<◌}
+use Prim.Native.Nat.{ℕ, ◌+◌, ◌-◌, ◌*◌, ◌/◌, ◌%◌, ◌^◌, ◌≤◌, ◌<◌, min}
 use native.Mathlib.Nat.{mod-eq_of_lt}
 use native.Mathlib.Omega.{arith}
 use native.Mathlib.Decide.{dec_lt, ℕ_discrete}
@@ -10,13 +10,12 @@ use lib.Bits.{bit_and, and_mask}
 use lib.Dec.{T, eqb, ltb, ltb→lt, eqb→eq}
 use lib.Pow.{shl_exact, ones_lt}
 use borrow.Author.Tests.{lt-ltb, le-ltb, eqb-true}
-use Rattle.base.specs.Choice.{choose}
 use Rattle.lookahead.specs.declared.Lookahead.{Lookahead}
 use Rattle.lookahead.specs.declared.Lookahead.TheVariants.{One, Two}
 use Rattle.lookahead.specs.inner.Lookaheads.{alphabet, single}
 use Rattle.lookahead.specs.Lookaheads.{elements, element_of}
 use Rattle.lookahead.specs.Elements.{has, width}
-use Rattle.lookahead.specs.inner.Operations.{terminal, Empty, Terminal}
+use Rattle.lookahead.specs.inner.Operations.{terminal, Terminal}
 use Rattle.pair_rows.specs.inner.Rows.{Has}
 use Rattle.concatenation.specs.inner.Computing.{Singles, is_long, AllLong}
 use Rattle.base.proofs.Booleans.{true_T, and_l, and_r}
@@ -27,25 +26,13 @@ use Rattle.lookahead.proofs.Strings.{two_single, two_pair, one_terminal, string_
 use Rattle.lookahead.proofs.Bounds.{elements_fit}
 use Rattle.lookahead_sets.proofs.SingleElements.{singles_fit, single_small, single_of}
 
--- no more terminals than there may be
-pub few_fit : (k : Lookahead) (t : ℕ) {m n : ℕ} → m ≡ alphabet k → n ≡ choose (ltb t m) t m → n < width
-few_fit k t {m} {n} e f = go (dec_lt t m)
-  where
-    go : Dec (t < m) → n < width
-    go (yes h) = let d : n ≡ t = f ∙ rw (lt-ltb t m h) in omega (arith, singles_fit k, elements_fit k)
-    go (no h) = let d : n ≡ m = f ∙ rw (le-ltb t m (omega arith)) in omega (arith, singles_fit k, elements_fit k)
-
 -- ones for m terminals, moved up to the elements of single terminals
-pub singles_are : (k : Lookahead) {t m s : ℕ} → m ≡ choose (ltb t (alphabet k)) t (alphabet k) → s ≡ single k
+pub singles_are : (k : Lookahead) {t m s : ℕ} → m ≡ min t (alphabet k) → s ≡ single k
     → Singles k t ((1 * 2 ^ m % 2 ^ width - 1) * 2 ^ s % 2 ^ width)
 singles_are k {t} {m} {s} em es = record { member = λ l. (to l, from l) }
   where
     bounds : (m ≤ t) × (m ≤ alphabet k) × ((a : ℕ) → a < t → a < alphabet k → a < m)
-    bounds = go (dec_lt t (alphabet k))
-      where
-        go : Dec (t < alphabet k) → (m ≤ t) × (m ≤ alphabet k) × ((a : ℕ) → a < t → a < alphabet k → a < m)
-        go (yes h) = let e : m ≡ t = em ∙ rw (lt-ltb t (alphabet k) h) in (omega arith, omega arith, λ a i j. omega arith)
-        go (no h) = let e : m ≡ alphabet k = em ∙ rw (le-ltb t (alphabet k) (omega arith)) in (omega arith, omega arith, λ a i j. omega arith)
+    bounds = (omega arith, omega arith, λ a i j. omega arith)
 
     fits : m < width
     fits = omega (arith, bounds.1, singles_fit k, elements_fit k)
@@ -65,10 +52,6 @@ singles_are k {t} {m} {s} em es = record { member = λ l. (to l, from l) }
     from l i =
         let e : l ≡ s + i.0 = omega (arith, i.3, single_of k i.0) in
         rw (exact, e, has_over (2 ^ m - 1) s i.0, has_ones m i.0, lt-ltb i.0 m (bounds.2 i.0 i.1 i.2)) tt
-
--- a mask of ones leaves the elements
-pub masked : (k : Lookahead) (s : ℕ) {e : ℕ} → e ≡ elements k → bit_and s (1 * 2 ^ e % 2 ^ width - 1) ≡ s % 2 ^ elements k
-masked k s {e} d = ap (λ (n : ℕ). bit_and s (n - 1)) (shifted e (omega (arith, elements_fit k))) ∙ and_mask s e ∙ rw d
 
 -- with one token terminals are long, with two tokens pairs
 pub one_long : (l : ℕ) → l < 24 → is_long One l ≡ true
@@ -151,6 +134,3 @@ terminal_long {a} {r} t l h = true_T (is_long One l) (one_long l (terminal_is t 
 -- a set that is there only if a test is passed
 pub if_passed : (b : Bool) (y : ℕ) → b ≡ true → Has y (λ l. b && has y l)
 if_passed b y e l = sym (rw e refl)
-
-pub if_failed : (b : Bool) (p : ℕ → Bool) {r : ℕ} → b ≡ false → Empty r → Has r (λ l. b && p l)
-if_failed b p e n l = n.member l ∙ sym (rw e refl)

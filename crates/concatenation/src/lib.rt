@@ -1,8 +1,7 @@
 // One lookahead set behind the other: what is looked at where a string of the first is followed by one of the second, and the set of all strings.
 #![tactic(auto)]
 
-ghost use Rattle.std.specs.Prelude.{◌≡◌, true, ◌&&◌, ◌%◌, ◌^◌, ◌<◌, ltb};
-ghost use Rattle.base.specs.Choice.{choose};
+ghost use Rattle.std.specs.Prelude.{◌≡◌, true, ◌&&◌, ◌%◌, ◌^◌, ◌<◌};
 ghost use Rattle.lookahead.specs.declared.Lookahead.TheVariants.{One, Two};
 ghost use Rattle.lookahead.specs.Lookaheads.{elements, nothing};
 ghost use Rattle.lookahead.specs.Elements.{has};
@@ -24,6 +23,7 @@ fn strings(set: LookaheadSet, lookahead: Lookahead) -> LookaheadSet
 }
 
 // The strings of as many tokens as are looked at: whatever follows, they stay.
+#[tactic(auto, using(crate::proofs::Cases::long_one, crate::proofs::Cases::long_two))]
 fn long(set: LookaheadSet, lookahead: Lookahead) -> LookaheadSet
     requires { set.bits < 2 ^ elements lookahead }
     ensures { Has result.bits (λ l. has set.bits l && is_long lookahead l) }
@@ -39,6 +39,7 @@ fn long(set: LookaheadSet, lookahead: Lookahead) -> LookaheadSet
 }
 
 // With two tokens, whether every string is a pair.
+#[tactic(auto, using(crate::proofs::Cases::all_long_two))]
 fn all_pairs(set: LookaheadSet) -> bool
     ensures { result ≡ true → AllLong Two set.bits }
 {
@@ -122,18 +123,12 @@ pub fn behind_terminal(number: u32, lookahead: Lookahead, other: LookaheadSet) -
     }
 }
 
-fn fewer(number: u32, most: u32) -> u32
-    ensures { result ≡ choose (ltb number most) number most }
-{
-    if number < most { number } else { most }
-}
-
 // Each terminal below terminals alone.
+#[tactic(auto, using(crate::proofs::Cases::singles_are))]
 fn singles(lookahead: Lookahead, terminals: u32) -> LookaheadSet
     ensures { Singles lookahead terminals result.bits }
 {
-    let most = alphabet(lookahead);
-    let few = fewer(terminals, most);
+    let few = terminals.min(alphabet(lookahead));
     LookaheadSet {
         bits: (1u64 << few) - 1 << single(lookahead),
     }

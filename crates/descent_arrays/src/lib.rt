@@ -1,7 +1,7 @@
 // The arrays that the descent reads, made before it starts: their sizes, and how the word of a token is made up.
 #![tactic(auto)]
 
-ghost use Rattle.std.specs.Prelude.{◌≡◌, min};
+ghost use Rattle.std.specs.Prelude.{◌≡◌};
 ghost use Rattle.descent_arrays.specs.inner.Arrays.{arrays};
 
 use grammar::limits::NONTERMINALS;
@@ -43,11 +43,4 @@ pub fn all() -> Arrays
         end_mark: END_MARK,
         column_weight: COLUMN_WEIGHT,
     }
-}
-
-// A number, or the most that there is room for.
-pub fn fitting(number: usize, room: usize) -> usize
-    ensures { result ≡ min number room }
-{
-    if number < room { number } else { room }
 }

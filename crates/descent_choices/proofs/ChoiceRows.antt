@@ -1,5 +1,5 @@
 -- The rows of choices are written one after the other, each column by column; and of sizes that fit they hold what is looked for in them.
-use mathlib.Core.Path.{◌≡◌, refl, sym, ap, ◌∙◌}
+use mathlib.Core.Path.{◌≡◌, sym, ap, ◌∙◌}
 use mathlib.Core.List.{List}
 use Prim.Native.Nat.{ℕ, suc, ◌+◌, ◌*◌, ◌/◌, ◌%◌, ◌≤◌, ◌<◌, min}
 use native.Mathlib.Nat.{mul-le-mul, suc-mul}
@@ -7,7 +7,7 @@ use native.Mathlib.Omega.{arith}
 use native.Mathlib.Decide.{dec_lt, ℕ_discrete}
 use lib.Dec.{ltb}
 use lib.ListN.{length, get_or, set, replicate, length-set, length-replicate}
-use lib.Seq.{get_or-set_same, get_or-set_other}
+use lib.Seq.{set-get_or, get_or-set_same, get_or-set_other}
 use borrow.Author.Tests.{lt-ltb, le-ltb, ne_eqb}
 use Rattle.base.specs.Choice.{choose}
 use Rattle.grammar.specs.Limits.{max_nonterminals, max_columns_of_two, max_tokens, max_memo_entries}
@@ -40,6 +40,10 @@ module _ (starts : List ℕ) (columns : ℕ) (entries : List ℕ) (tokens : ℕ)
       listed_by choice_words (word_at starts columns entries tokens 0) (replicate choice_words 0) (length-replicate {A = ℕ} choice_words 0)
       (λ x h. get_d_zeros choice_words x ∙ sym (rw (le-ltb (x / choice_columns) 0 (omega arith))))
 
+-- a zero that stands already need not be written
+pub zero_kept : (l : List ℕ) (i : ℕ) → get_or l i 0 ≡ 0 → l ≡ set l i 0
+zero_kept l i e = sym (ap (λ v. set l i v) (sym e) ∙ set-get_or l i 0)
+
 -- where a row is read and written
 pub record Placed (columns tokens A : ℕ) : Type 0 where
   pub from : A * columns + columns ≤ max_entries
@@ -52,24 +56,6 @@ pub record Writing (starts entries : List ℕ) (from to column : ℕ) (before no
   pub below : (x : ℕ) → x < to → get_or now x 0 ≡ get_or before x 0
   pub ahead : (x : ℕ) → to + column ≤ x → get_or now x 0 ≡ get_or before x 0
   pub written : (c : ℕ) → c < column → get_or now (to + c) 0 ≡ first_word starts (get_or entries (from + c) 0)
-
-pub writing_none : (starts entries : List ℕ) (from to : ℕ) (before : List ℕ) → Writing starts entries from to 0 before before
-writing_none starts entries from to before = record { long = refl; below = λ x l. refl; ahead = λ x l. refl; written = λ c l. absurd (omega arith) }
-
--- one column more
-pub writing_more : {starts entries : List ℕ} {from to column : ℕ} {before now : List ℕ} {v : ℕ}
-    → Writing starts entries from to column before now → to + column < length now
-    → v ≡ first_word starts (get_or entries (from + column) 0) → Writing starts entries from to (column + 1) before (set now (to + column) v)
-writing_more {starts} {entries} {from} {to} {column} {before} {now} {v} w h e = record {
-  long = length-set now (to + column) v ∙ w.long;
-  below = λ x l. get_or-set_other now (to + column) x v 0 (λ q. absurd (omega arith)) ∙ w.below x l;
-  ahead = λ x l. get_or-set_other now (to + column) x v 0 (λ q. absurd (omega arith)) ∙ w.ahead x (omega arith);
-  written = λ c l. go c l (dec_lt c column);
-}
-  where
-    go : (c : ℕ) → c < column + 1 → Dec (c < column) → get_or (set now (to + column) v) (to + c) 0 ≡ first_word starts (get_or entries (from + c) 0)
-    go c l (yes k) = get_or-set_other now (to + column) (to + c) v 0 (λ q. absurd (omega arith)) ∙ w.written c k
-    go c l (no k) = let q : c ≡ column = omega arith in rw q (get_or-set_same now (to + column) v 0 h ∙ e)
 
 module _ {starts : List ℕ} {columns : ℕ} {entries : List ℕ} {tokens A : ℕ} {choices : List ℕ} (g : RowGiven starts columns entries tokens A choices) where
   pub placed : Placed columns tokens A

@@ -7,20 +7,21 @@ ghost use Rattle.descent_arrays.specs.inner.Arrays.{choice_words};
 ghost use Rattle.descent_choices.specs.inner.Choices.{first_word, choice_rows, choices_of, memo_entries, RowGiven};
 
 use columns::count;
-use descent_arrays::{CHOICE_COLUMNS, CHOICES, END_COLUMN, ROW_COLUMN, fitting};
+use descent_arrays::{CHOICE_COLUMNS, CHOICES, END_COLUMN, ROW_COLUMN};
 use grammar::limits::{COLUMNS_OF_TWO, ENTRIES, NONTERMINALS, RULES, TOKENS, WORDS};
 use grammar::reading::Sizes;
 use lookahead::Lookahead;
 
 // Writes where the first conjunct of a rule stands; where there is no rule, the 0 that is there already stays.
+#[tactic(auto, using(crate::proofs::ChoiceRows::zero_kept), unfolding(crate::specs::inner::Choices::first_word))]
 fn write_choice(choices: &mut [u16; CHOICES], at: usize, starts: &[usize; RULES], rule: u8)
     requires { (at < choice_words) × (get_or choices.old at 0 ≡ 0) }
     ensures { choices.new ≡ set choices.old at (first_word starts.now rule) }
 {
-    if RULES <= rule as usize {
-        return;
+    let rule = usize::from(rule);
+    if rule < RULES {
+        choices[at] = (starts[rule] % WORDS + 1) as u16;
     }
-    choices[at] = (starts[rule as usize] % WORDS + 1) as u16;
 }
 
 // Writes the row of one nonterminal.
@@ -37,10 +38,8 @@ fn fill_row(
 {
     let from = nonterminal * columns;
     let to = nonterminal * CHOICE_COLUMNS;
-    let mut column = 0;
-    while column < columns {
+    for column in 0..columns {
         write_choice(choices, to + column, starts, entries[from + column]);
-        column = column + 1;
     }
     choices[to + END_COLUMN] = tokens as u16;
     choices[to + ROW_COLUMN] = (nonterminal * (tokens + 1)) as u16;
@@ -56,14 +55,12 @@ fn choices_of(
 ) -> [u16; CHOICES]
     ensures { result ≡ choices_of starts.now nonterminals columns entries.now tokens }
 {
-    let rows = fitting(nonterminals, NONTERMINALS as usize);
-    let wide = fitting(columns, COLUMNS_OF_TWO);
-    let long = fitting(tokens, TOKENS);
+    let rows = nonterminals.min(NONTERMINALS as usize);
+    let wide = columns.min(COLUMNS_OF_TWO);
+    let long = tokens.min(TOKENS);
     let mut choices = [0u16; CHOICES];
-    let mut nonterminal = 0;
-    while nonterminal < rows {
+    for nonterminal in 0..rows {
         fill_row(&mut choices, starts, entries, wide, nonterminal, long);
-        nonterminal = nonterminal + 1;
     }
     choices
 }
@@ -89,10 +86,11 @@ pub fn table_choices<'a>(
 }
 
 // How many entries the memo table then has: a row for each nonterminal, of as many places.
+#[tactic(auto, unfolding(crate::specs::inner::Choices::memo_entries))]
 pub fn entries_of(nonterminals: u32, tokens: usize) -> usize
     ensures { result ≡ memo_entries nonterminals tokens }
 {
-    let rows = fitting(nonterminals as usize, NONTERMINALS as usize);
-    let long = fitting(tokens, TOKENS);
+    let rows = (nonterminals as usize).min(NONTERMINALS as usize);
+    let long = tokens.min(TOKENS);
     rows * (long + 1)
 }

@@ -4,11 +4,11 @@
 ghost use Rattle.std.specs.Prelude.{◌≡◌, length};
 ghost use Rattle.descent_preparation.specs.inner.Preparation.{sizes_of, last_of, InputPrepared, SearchPrepared, TrialPrepared};
 
-use descent_arrays::{CHOICES, fitting};
+use answer::Error;
+use descent_arrays::CHOICES;
 use descent_choices::{entries_of, table_choices};
 use descent_findings::{find_for_input, find_for_search};
 use descent_tokens::tokens_of;
-use families::Finding;
 use grammar::limits::{PLACES, TOKENS};
 use grammar::reading::Sizes;
 use inputs::{count_inputs, write_input};
@@ -36,16 +36,12 @@ pub struct PreparedSearch {
 }
 
 // The sizes of a grammar that passed; else of one that has nothing.
-fn sizes_of(finding: Finding) -> Sizes
+fn sizes_of(finding: Result<Sizes, Error>) -> Sizes
     ensures { result ≡ sizes_of finding }
 {
     match finding {
-        Finding::Passed(sizes) => sizes,
-        Finding::Refused(_) => Sizes {
-            nonterminals: 0,
-            terminals: 0,
-            rules: 0,
-        },
+        Ok(sizes) => sizes,
+        Err(_) => Sizes::default(),
     }
 }
 
@@ -53,10 +49,7 @@ fn sizes_of(finding: Finding) -> Sizes
 fn last_of(terminals: u32) -> u8
     ensures { result ≡ last_of terminals }
 {
-    if terminals == 0 {
-        return 0;
-    }
-    ((terminals - 1) % 256) as u8
+    (terminals.saturating_sub(1) % 256) as u8
 }
 
 // For the input that the events are. Of the lent memo table the first entries are made blank, as many as the descent needs, or as there are.
@@ -79,7 +72,7 @@ pub fn prepare_input(
         events.len(),
     );
     let tokens = tokens_of(events, lookahead, sizes.terminals);
-    let entries = fitting(entries_of(sizes.nonterminals, events.len()), memo.len());
+    let entries = entries_of(sizes.nonterminals, events.len()).min(memo.len());
     clear(&mut memo[..entries]);
     Prepared {
         found,
@@ -101,7 +94,7 @@ pub fn prepare_search(words: &[u32], tokens: usize, log: usize, memo: usize) -> 
     let entries = entries_of(sizes.nonterminals, tokens);
     let last = last_of(sizes.terminals);
     // of a length that is refused no more tokens are counted than there may be
-    let inputs = count_inputs(sizes.terminals, fitting(tokens, TOKENS));
+    let inputs = count_inputs(sizes.terminals, tokens.min(TOKENS));
     PreparedSearch {
         found,
         choices,

@@ -9,15 +9,13 @@ use grammar::codes::FAILED;
 // What the column of a lookahead string weighs in a token's word.
 const WEIGHT: usize = COLUMN_WEIGHT as usize;
 
-// Places are counted in 16 bits.
-const NUMBERS_OF_16_BITS: u32 = 65536;
-
 // One place on where the token, by its word, is this terminal, else the code of a failure.
+#[tactic(auto, unfolding(crate::specs::inner::Steps::end_behind))]
 pub fn end_behind(token: u16, terminal: u32, place: u16) -> u16
     ensures { result ≡ end_behind token terminal place }
 {
     if token as u32 % COLUMN_WEIGHT == terminal {
-        return ((place as u32 + 1) % NUMBERS_OF_16_BITS) as u16;
+        return place.wrapping_add(1);
     }
     FAILED
 }

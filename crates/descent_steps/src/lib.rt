@@ -6,7 +6,7 @@ ghost use Rattle.std.specs.Prelude.{◌≡◌};
 ghost use Rattle.word.specs.Words.{decoded};
 ghost use Rattle.semantics.specs.inner.Memo.{decode as outcome_of};
 ghost use Rattle.rule.specs.inner.Rule.{begins_body, sign_of, opening_by, joined_by, agreement_code, agreement_of};
-ghost use Rattle.descent_steps.specs.inner.Steps.{symbol_step, step_of, word_at, conjunct_sign, next_conjunct};
+ghost use Rattle.descent_steps.specs.inner.Steps.{step_of, word_at, conjunct_sign, next_conjunct};
 
 use grammar::codes::FAILED;
 use rule::{Sign, body_end, joined, opening};
@@ -17,9 +17,9 @@ pub mod entry;
 pub mod state;
 
 // The words that begin a positive and a negative conjunct: kinds 3 and 4 in the topmost four bits, and zeros.
-const POSITIVE_WORD: u32 = 805306368;
+const POSITIVE_WORD: u32 = 3 << 28;
 
-const NEGATIVE_WORD: u32 = 1073741824;
+const NEGATIVE_WORD: u32 = 4 << 28;
 
 // What a body does at a word: it takes a terminal, calls a nonterminal, or is over.
 #[derive(Clone, Copy)]
@@ -29,29 +29,13 @@ pub enum Step {
     Over,
 }
 
-fn symbol_step(symbol: Symbol) -> Step
-    ensures { result ≡ symbol_step symbol }
-{
-    match symbol {
-        Symbol::Terminal(terminal) => Step::Terminal(terminal),
-        Symbol::Nonterminal(called) => Step::Nonterminal(called),
-    }
-}
-
 fn step_of(word: Word) -> Step
     ensures { result ≡ step_of word }
 {
     match word {
-        Word::Symbol(symbol) => symbol_step(symbol),
-        Word::Positive => Step::Over,
-        Word::Negative => Step::Over,
-        Word::Rule(_) => Step::Over,
-        Word::End => Step::Over,
-        Word::Heading {
-            nonterminals: _,
-            terminals: _,
-        } => Step::Over,
-        Word::Invalid => Step::Over,
+        Word::Symbol(Symbol::Terminal(terminal)) => Step::Terminal(terminal),
+        Word::Symbol(Symbol::Nonterminal(called)) => Step::Nonterminal(called),
+        _ => Step::Over,
     }
 }
 
@@ -63,6 +47,7 @@ pub fn step_of_word(bits: u32) -> Step
 }
 
 // The word at an index; where the words end, one that begins nothing.
+#[tactic(auto, unfolding(crate::specs::inner::Steps::word_at))]
 pub(crate) fn word_at(words: &[u32], at: usize) -> u32
     ensures { result ≡ word_at words.now at }
 {
@@ -70,6 +55,7 @@ pub(crate) fn word_at(words: &[u32], at: usize) -> u32
 }
 
 // Whether a word begins a conjunct. It is compared and not decoded: for each conjunct that is two instructions.
+#[tactic(auto, using(crate::proofs::Conjuncts::negative_begins, crate::proofs::Conjuncts::another_begins))]
 pub(crate) fn begins_conjunct(bits: u32) -> bool
     ensures { result ≡ begins_body (sign_of (decoded bits)) }
 {
@@ -77,6 +63,7 @@ pub(crate) fn begins_conjunct(bits: u32) -> bool
 }
 
 // What a word that begins a conjunct begins.
+#[tactic(auto, unfolding(crate::specs::inner::Steps::conjunct_sign))]
 fn conjunct_sign(bits: u32) -> Sign
     ensures { result ≡ conjunct_sign bits }
 {
@@ -88,6 +75,7 @@ fn conjunct_sign(bits: u32) -> Sign
 }
 
 // Where the next conjunct is, or the rule ends, when a body has stopped at an index: there, unless the body has failed.
+#[tactic(auto, unfolding(crate::specs::inner::Steps::next_conjunct))]
 pub(crate) fn next_conjunct(words: &[u32], entry: u16, at: usize) -> usize
     ensures { result ≡ next_conjunct words.now entry at }
 {

@@ -17,6 +17,7 @@ pub struct RuleState {
 
 // Before the first body of the rule whose first conjunct stands at an index; 0 stands for no rule, and that has failed. The input's length is read
 // in the first row of the choices: every nonterminal's row has the same.
+#[tactic(auto, unfolding(crate::specs::inner::Steps::first_state, descent_arrays::specs::inner::Arrays::end_at))]
 pub fn first_state(words: &[u32], choices: &[u16; CHOICES], at: u16) -> RuleState
     ensures { result ≡ first_state words.now choices.now at }
 {
@@ -38,16 +39,15 @@ pub fn first_state(words: &[u32], choices: &[u16; CHOICES], at: u16) -> RuleStat
 }
 
 // Whether a further body is run: a conjunct begins there, and the rule has not failed.
+#[tactic(auto, unfolding(crate::specs::inner::Steps::goes_further))]
 pub fn goes_further(state: RuleState) -> bool
     ensures { result ≡ goes_further state }
 {
-    if state.agreement == FAILED {
-        return false;
-    }
-    begins_conjunct(state.word)
+    state.agreement != FAILED && begins_conjunct(state.word)
 }
 
 // The state after that body, which stopped at an index; the entry is that of its outcome.
+#[tactic(auto, unfolding(crate::specs::inner::Steps::next_state))]
 pub fn next_state(words: &[u32], state: RuleState, entry: u16, at: usize) -> RuleState
     ensures { result ≡ next_state words.now state entry at }
 {
@@ -55,8 +55,8 @@ pub fn next_state(words: &[u32], state: RuleState, entry: u16, at: usize) -> Rul
     if agreement == FAILED {
         return RuleState {
             at,
-            word: state.word,
             agreement: FAILED,
+            ..state
         };
     }
     let next = next_conjunct(words, entry, at);

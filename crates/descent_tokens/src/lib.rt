@@ -6,7 +6,7 @@ ghost use Rattle.event.specs.Events.{input_of};
 ghost use Rattle.descent_tokens.specs.inner.Tokens.{token_word, tokens_of};
 
 use columns::{column_before, column_end, column_last};
-use descent_arrays::{COLUMN_WEIGHT, END_MARK, fitting};
+use descent_arrays::{COLUMN_WEIGHT, END_MARK};
 use event::terminal_of;
 use grammar::limits::PLACES;
 use lookahead::Lookahead;
@@ -25,21 +25,19 @@ pub fn tokens_of(events: &[u8], lookahead: Lookahead, terminals: u32) -> [u16; P
 {
     let end = word_of(column_end(lookahead, terminals), END_MARK);
     let mut tokens = [end; PLACES];
-    let count = fitting(events.len(), PLACES + 1);
-    let mut place = 0;
-    while place + 1 < count {
+    let followed = events.len().saturating_sub(1).min(PLACES);
+    for place in 0..followed {
         let event = events[place];
         let next = events[place + 1];
         let terminal = terminal_of(event);
         let column = column_before(lookahead, terminal, terminal_of(next));
         tokens[place] = word_of(column, terminal);
-        place = place + 1;
     }
-    if fitting(count, PLACES) <= place {
+    if events.len().min(PLACES) <= followed {
         return tokens;
     }
-    let last = events[place];
+    let last = events[followed];
     let terminal = terminal_of(last);
-    tokens[place] = word_of(column_last(lookahead, terminal), terminal);
+    tokens[followed] = word_of(column_last(lookahead, terminal), terminal);
     tokens
 }

@@ -9,8 +9,6 @@ use Rattle.recognizer_promises.specs.Properties.{Checks, Judges}
 use Rattle.recognizer_promises.specs.Costliest.{JudgesCostliest}
 use Rattle.usage.specs.declared.Usage.{Usage}
 use Rattle.client_records.specs.declared.Served.{Served}
-use Rattle.client_records.specs.declared.totals.Totals.{Totals}
-use Rattle.client_records.specs.Sums.{Totalled}
 use Rattle.clients_promises.specs.Properties.{JudgesFor}
 use Rattle.tree_writer_promises.specs.declared.Shown.{Shown}
 use Rattle.tree_writer_promises.specs.Properties.{Shows}
@@ -18,8 +16,8 @@ use Rattle.tabular_promises.specs.Properties.{TabularJudges}
 use Rattle.embed_promises.specs.Packing.{packed}
 use Rattle.embed_promises.specs.inner.Packing.{cut}
 use Rattle.embed_promises.specs.inner.Records.{HandedBack}
-use Rattle.embed_promises.specs.Records.{usages_in, totals_row}
-use Rattle.embed_promises.specs.Exports.{CheckExported, JudgeExported, CostliestExported, ServedExported, TotalsExported, TreeExported, TabularExported}
+use Rattle.embed_promises.specs.Records.{usages_in}
+use Rattle.embed_promises.specs.Exports.{CheckExported, JudgeExported, CostliestExported, ServedExported, TreeExported, TabularExported}
 use Rattle.embed_promises.proofs.Packed.{packs}
 use Rattle.embed_promises.proofs.Fitting.{check_fits, judge_fits, costliest_fits, served_fits, tabular_fits, tree_fits}
 
@@ -45,10 +43,6 @@ served_exported {x = x} h j b = record {
   exported = record { result = x; promise = rw h at j; packs = packs (served_fits j) b.packs };
   written = b.written;
 }
-
-pub totals_exported : {row totals' : List ℕ} {us : List Usage} {t : Totals} → us ≡ usages_in row → Totalled us t → totals' ≡ totals_row t
-    → TotalsExported row totals'
-totals_exported {t = t} h s w = record { totals = t; sums = rw h at s; written = w }
 
 pub tabular_exported : {words input before after : List ℕ} {a : Answer} {r : ℕ} → TabularJudges words input before a after → r ≡ packed (cut (numbers a))
     → TabularExported words input before r after

@@ -11,6 +11,8 @@ use Rattle.event.specs.Events.{input_of}
 use Rattle.kept_input.specs.declared.KeptInput.{KeptInput}
 use Rattle.kept_steps.specs.Histories.{mark_count, empty_input, Step, ran}
 use Rattle.kept_marks.specs.Stored.{unset_code, read_mark, held_by, values_of, progress_of}
+use Rattle.kept_marks.specs.Properties.{step_left}
+use Rattle.kept_input.proofs.Histories.{step_holds}
 use Rattle.kept_input.specs.Held.{kept_input, held_input}
 use Rattle.kept_marks.proofs.Storing.{held_stored}
 use Rattle.kept_steps.proofs.Soundness.{empty_sound}
@@ -31,10 +33,11 @@ zero_marks : (events : List ℕ) (m : ℕ) → m < mark_count → (held_in event
 unfolding held_by
 zero_marks events m h = ap (read_mark 0) (get_or-replicate mark_count m 0 unset_code h)
 
--- what a call leaves in the caller's memory is what the library's step hands back
+-- what a call leaves in the caller's memory is what the library's step leaves
 call_holds : {t : Step} {events state events' state' : List ℕ} {r : ℕ} → (s : StepExported t events state r events' state')
-    → held_in events' state' ≡ held_input s.changed.kept
-call_holds s = ap held_input (same s.changed.kept s.events_written s.state_written)
+    → held_in events' state' ≡ held_input (step_left s.changed (kept_input events (progress_in state)))
+call_holds {events = events} {state = state} s =
+    ap held_input (same (step_left s.changed (kept_input events (progress_in state))) s.events_written s.state_written)
   where
     same : (k : KeptInput) {events' state' : List ℕ} → events' ≡ k.events → state' ≡ state_of k.progress → kept_input events' (progress_in state') ≡ k
     same k e f = rw (e, f) refl
@@ -43,7 +46,7 @@ calls_hold : {events state events' state' : List ℕ} {l : List Step} → Calls 
     → held_in events' state' ≡ ran l (held_in events state)
 unfolding ran
 calls_hold idle = refl
-calls_hold (next {l = l} r s rest) = calls_hold rest ∙ ap (ran l) (call_holds s ∙ s.steps.holds)
+calls_hold (next {l = l} r s rest) = calls_hold rest ∙ ap (ran l) (call_holds s ∙ step_holds s.changed s.steps)
 
 calls_judged : {k : Lookahead} {events events' state' : List ℕ} {l : List Step} → Calls events empty_state l events' state'
     → {words table memo table' memo' table'' memo'' : List ℕ} {r s : ℕ} → KeptExported k words events' state' table memo r table' memo'

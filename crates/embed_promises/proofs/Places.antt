@@ -1,4 +1,5 @@
 -- The position that a refusal tells is a small number: an index of a word or a token, a nonterminal, or an entry of the table.
+use Rattle.std.specs.Prelude.{Some}
 use mathlib.Core.Path.{◌≡◌}
 use mathlib.Core.List.{List}
 use Prim.Native.Nat.{ℕ, ◌≤◌}
@@ -11,7 +12,6 @@ use Rattle.grammar.specs.Encoding.{grammar_of}
 use Rattle.lookahead.specs.declared.Lookahead.{Lookahead}
 use Rattle.lookahead.specs.declared.Lookahead.TheVariants.{One, Two}
 use Rattle.lookahead.specs.inner.Lookaheads.{alphabet}
-use Rattle.table_promises.specs.declared.Conflict.TheVariants.{At}
 use Rattle.table_promises.specs.Analysis.{conflict_error}
 use Rattle.table_promises.specs.Conflicts.{first_clash}
 use Rattle.table_promises.proofs.FirstClash.{clash_at}
@@ -36,7 +36,7 @@ sets_low k = record {
 }
 
 -- a row of one token has at most 25 columns and 32 places, one of two tokens 57 and 64
-conflict_low : (k : Lookahead) (G : Grammar) → G.nonterminals ≤ max_nonterminals → G.terminals ≤ alphabet k → (A c : ℕ) → first_clash k G ≡ At A c
+conflict_low : (k : Lookahead) (G : Grammar) → G.nonterminals ≤ max_nonterminals → G.terminals ≤ alphabet k → (A c : ℕ) → first_clash k G ≡ Some (A, c)
     → Low (conflict_error k A c)
 conflict_low One G few small A c e = let h = clash_at One G e in omega (arith, h.0, h.1)
 conflict_low Two G few small A c e = let h = clash_at Two G e in omega (arith, h.0, h.1)

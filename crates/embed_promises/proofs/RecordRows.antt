@@ -4,7 +4,7 @@ use mathlib.Core.List.{List, [], ◌∷◌}
 use Prim.Native.Nat.{ℕ, ◌+◌, ◌*◌, ◌≤◌, ◌<◌}
 use native.Mathlib.Decide.{ℕ_discrete}
 use native.Mathlib.Omega.{arith}
-use lib.ListN.{length, get_or, set, replicate, length-set, length-replicate}
+use lib.ListN.{length, get_or, set, length-set}
 use lib.Seq.{get_or-set_same, get_or-set_other}
 use Rattle.usage.specs.declared.Usage.{Usage}
 use Rattle.usage.specs.Counters.{usage_of}
@@ -14,9 +14,6 @@ use Rattle.embed_promises.specs.inner.Records.{RecordsWritten}
 
 same_usage : {c c' r r' a a' d d' : ℕ} → c ≡ c' → r ≡ r' → a ≡ a' → d ≡ d' → usage_of c r a d ≡ usage_of c' r' a' d'
 same_usage e f g h = cc
-
-pub nothing_written : (us : List Usage) → RecordsWritten us 0 (replicate 32 0)
-nothing_written us = record { few = omega arith; long = length-replicate {A = ℕ} 32 0; same = λ k h. absurd (omega arith) }
 
 -- four numbers written one after the other
 module _ (row : List ℕ) (at : ℕ) (c r a d : ℕ) where

@@ -1,12 +1,12 @@
 -- What the exported calls on a kept input promise: what stands in the caller's memory is a value of it, and each call is the library's on that value.
-use Rattle.std.specs.Prelude.{◌≡◌, List, ◌∷◌, ℕ, length, get_or, drop}
+use Rattle.std.specs.Prelude.{◌≡◌, List, ◌∷◌, ℕ, length, get_or, drop, Result, Err}
 use Rattle.answer.specs.declared.Answer.{Answer}
-use Rattle.answer.specs.declared.Answer.TheVariants.{Refused}
 use Rattle.answer.specs.declared.Error.{Error}
 use Rattle.grammar.specs.Limits.{max_tokens}
 use Rattle.lookahead.specs.declared.Lookahead.{Lookahead}
 use Rattle.kept_marks.specs.declared.Progress.{Progress}
-use Rattle.kept_input.specs.declared.Changed.{Changed}
+use Rattle.kept_input.specs.declared.KeptInput.{KeptInput}
+use Rattle.kept_marks.specs.Properties.{step_answer, step_left}
 use Rattle.kept_steps.specs.Histories.{Step, Add}
 use Rattle.kept_input.specs.Held.{kept_input}
 use Rattle.kept_input.specs.Properties.{Steps, JudgesKept}
@@ -22,13 +22,13 @@ progress_in l = record { length = get_or l 0 0; marks = drop 1 l }
 
 -- a step on these events and this state
 pub record StepExported (t : Step) (events state : List ℕ) (r : ℕ) (events' state' : List ℕ) : Type 0 where
-  pub changed : Changed
+  pub changed : Result KeptInput Error
   pub steps : Steps t (kept_input events (progress_in state)) changed
-  pub packs : Packs r changed.answer
-  -- what it hands back is written, and a refusal changes nothing
-  pub events_written : events' ≡ changed.kept.events
-  pub state_written : state' ≡ state_of changed.kept.progress
-  pub unchanged : (e : Error) → changed.answer ≡ Refused e → (events' ≡ events) × (state' ≡ state)
+  pub packs : Packs r (step_answer changed)
+  -- what it leaves is written, and a refusal changes nothing
+  pub events_written : events' ≡ (step_left changed (kept_input events (progress_in state))).events
+  pub state_written : state' ≡ state_of (step_left changed (kept_input events (progress_in state))).progress
+  pub unchanged : (e : Error) → changed ≡ Err e → (events' ≡ events) × (state' ≡ state)
 
 abbrev pub AddExported : ℕ → List ℕ → List ℕ → ℕ → List ℕ → List ℕ → Type 0
 AddExported event = StepExported (Add event)

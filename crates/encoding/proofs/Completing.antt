@@ -1,4 +1,5 @@
 -- Words that begin an encoding, with its heading, are completed by no more than a positive and the end.
+use Rattle.std.specs.Prelude.{Ok}
 use mathlib.Core.Path.{◌≡◌, ◌∙◌}
 use mathlib.Core.Bool.{Bool, true, ◌&&◌}
 use mathlib.Core.List.{List, [], ◌∷◌, ◌++◌}
@@ -9,7 +10,6 @@ use Rattle.word.specs.Words.{decoded}
 use Rattle.grammar.specs.declared.reading.State.{State}
 use Rattle.grammar.specs.declared.reading.Sizes.{Sizes}
 use Rattle.grammar.specs.declared.reading.Progress.{Progress}
-use Rattle.grammar.specs.declared.reading.Reading.TheVariants.{Read}
 use Rattle.grammar.specs.Encoding.{declared_by}
 use Rattle.grammar.specs.Limits.{max_nonterminals, max_terminals}
 use Rattle.grammar.specs.Reading.{stepped, on_step, scan, opened, headed, fresh, is_within}
@@ -25,7 +25,7 @@ record Passes (p : Progress) (ws : List ℕ) : Type 0 where
   come : Progress
   through : (us : List ℕ) (j : ℕ) → scan p j (ws ++ us) ≡ scan come (j + length ws) us
 
-passes : (p : Progress) (at : ℕ) (ws us : List ℕ) (z : Sizes) → scan p at (ws ++ us) ≡ Read z → Passes p ws
+passes : (p : Progress) (at : ℕ) (ws us : List ℕ) (z : Sizes) → scan p at (ws ++ us) ≡ Ok z → Passes p ws
 unfolding scan on_step
 passes p at [] us z e = record { come = p; through = λ vs j. let n : j + 0 ≡ j = omega arith in rw n }
 passes p at (w ∷ ws) us z e =
@@ -40,7 +40,7 @@ passes p at (w ∷ ws) us z e =
 pub record Completed (words : List ℕ) : Type 0 where
   pub state : State
   pub sizes : Sizes
-  pub reads : opened (words ++ completion state) ≡ Read sizes
+  pub reads : opened (words ++ completion state) ≡ Ok sizes
 
 pub completed : (w : ℕ) (ws : List ℕ) → BeginsEncoding (w ∷ ws) → Completed (w ∷ ws)
 unfolding opened headed

@@ -1,4 +1,6 @@
 -- What a reading finds is the diagnosis of the words.
+use Rattle.std.specs.Prelude.{Err, Ok, Result}
+use Rattle.grammar.specs.declared.reading.Progress.{Progress}
 use mathlib.Core.Path.{◌≡◌, refl, sym, ap, ◌∙◌}
 use mathlib.Core.Bool.{Bool, true, false, ◌&&◌, false≢true}
 use mathlib.Core.List.{List, [], ◌∷◌, ◌++◌}
@@ -16,21 +18,17 @@ use Rattle.word.specs.declared.Word.TheVariants.{Heading, Rule as RuleWord, Posi
 use Rattle.base.specs.Choice.{choose}
 use Rattle.word.specs.Words.{kind, payload, bare, heading, of_kind, decoded}
 use Rattle.grammar.specs.declared.reading.Sizes.{Sizes}
-use Rattle.grammar.specs.declared.reading.Step.{Step}
-use Rattle.grammar.specs.declared.reading.Step.TheVariants.{Stop}
-use Rattle.grammar.specs.declared.reading.Reading.{Reading}
-use Rattle.grammar.specs.declared.reading.Reading.TheVariants.{Read, Faulty}
 use Rattle.grammar.specs.Limits.{max_words, max_nonterminals, max_terminals, max_rules}
 use Rattle.grammar.specs.Encoding.{sizes, declared_by, grammar_of}
 use Rattle.grammar.specs.Reading.{allows, in_range, begins_rule, stepped, on_step, finished, scan, fresh, is_within, headed, opened, reading}
 use Rattle.encoding.specs.Encode.{heading_word, end_word, sizes_of}
 use Rattle.encoding.specs.Diagnosis.{BeginsEncoding, FirstFault, OutOfRangeAt, RuleTooMany, WordFault, Diagnosis}
 use Rattle.grammar.proofs.Scanning.{Stepped, stepping}
-use Rattle.grammar.proofs.WellFormed.{faulty, never}
+use Rattle.grammar.proofs.WellFormed.{faulty}
 use Rattle.grammar.proofs.WellRead.{chosen, both, within_limits}
 use Rattle.encoding.proofs.Words.{Parts, parts, decoded_symbol}
 use Rattle.encoding.proofs.ReadingEncodes.{opened_encodes, encodes_opened}
-use Rattle.encoding.proofs.Faults.{stop_same, Faults, faults}
+use Rattle.encoding.proofs.Faults.{err_same, Faults, faults}
 use Rattle.encoding.proofs.FaultIndex.{Place, begins, begun, stuck, may_end, may_stand, may_begin, may_follow}
 
 decoded_kind : (w k : ℕ) → kind w ≡ k → decoded w ≡ of_kind k (payload w)
@@ -103,8 +101,8 @@ over_ranged words i l (OutOfRangeAt.nonterminal k b m) = let d = get_or-eq_defau
 over_many : (words : List ℕ) (i : ℕ) → length words ≤ i → RuleTooMany words i → ⊥
 over_many words i l m = let d = get_or-eq_default words 0 l in let k = m.begins in omega arith
 
-diagnosed_place : (words : List ℕ) (i : ℕ) (x : Error) → length words ≤ max_words → opened words ≡ Faulty x → Place words i x
-    → Diagnosis words (Faulty x)
+diagnosed_place : (words : List ℕ) (i : ℕ) (x : Error) → length words ≤ max_words → opened words ≡ Err x → Place words i x
+    → Diagnosis words (Err x)
 diagnosed_place words i x short e h = go (dec_lt i (length words))
   where
     first : FirstFault words i
@@ -117,16 +115,16 @@ diagnosed_place words i x short e h = go (dec_lt i (length words))
               λ G c. faulty x (sizes_of G) (sym e ∙ encodes_opened words G c);
         }
 
-    why : (t : Step) → Stepped (decoded (get_or words i 0)) h.come i t → t ≡ Stop x → WordFault words i x
-    why _ (Stepped.unexpected a) s = rw (stop_same (UnexpectedWord i) x s) (WordFault.unexpected (not_ranged words i x h a) (not_many words i x h a))
+    why : (t : Result Progress Error) → Stepped (decoded (get_or words i 0)) h.come i t → t ≡ Err x → WordFault words i x
+    why _ (Stepped.unexpected a) s = rw (err_same (UnexpectedWord i) x s) (WordFault.unexpected (not_ranged words i x h a) (not_many words i x h a))
     why _ (Stepped.out_of_range a r) s =
-        rw (stop_same (OutOfRange i) x s) (WordFault.out_of_range (out_of_range_lem words i x h (decoded (get_or words i 0)) (parts (get_or words i 0)) a r))
+        rw (err_same (OutOfRange i) x s) (WordFault.out_of_range (out_of_range_lem words i x h (decoded (get_or words i 0)) (parts (get_or words i 0)) a r))
     why _ (Stepped.too_many a r b l) s =
-        rw (stop_same (TooManyRules i) x s) (WordFault.too_many (too_many_lem words i x h (decoded (get_or words i 0)) (parts (get_or words i 0)) a r b l))
-    why _ (Stepped.rule a r b l) s = absurd (never x _ (sym s))
-    why _ (Stepped.other a r b) s = absurd (never x _ (sym s))
+        rw (err_same (TooManyRules i) x s) (WordFault.too_many (too_many_lem words i x h (decoded (get_or words i 0)) (parts (get_or words i 0)) a r b l))
+    why _ (Stepped.rule a r b l) s = absurd (faulty x _ (sym s))
+    why _ (Stepped.other a r b) s = absurd (faulty x _ (sym s))
 
-    go : Dec (i < length words) → Diagnosis words (Faulty x)
+    go : Dec (i < length words) → Diagnosis words (Err x)
     go (yes l) =
         Diagnosis.behind short h.behind first
         (why (stepped (decoded (get_or words i 0)) h.come i) (stepping (decoded (get_or words i 0)) h.come i) (h.word l))
@@ -139,9 +137,9 @@ begins_nothing : BeginsEncoding []
 unfolding opened headed is_within scan finished on_step stepped decoded of_kind heading bare
 begins_nothing = begins [] (heading_word 1 1 ∷ end_word ∷ []) (sizes 1 1 0) refl
 
-diagnosed_heading : (words : List ℕ) → length words ≤ max_words → opened words ≡ Faulty HeadingFault
+diagnosed_heading : (words : List ℕ) → length words ≤ max_words → opened words ≡ Err HeadingFault
     → (0 < length words → BeginsEncoding (take 1 words) → ⊥)
-    → Diagnosis words (Faulty HeadingFault)
+    → Diagnosis words (Err HeadingFault)
 diagnosed_heading words short e n =
     Diagnosis.heading short
     (record { among = omega arith; before = begins_nothing; here = n; whole = λ G c. faulty HeadingFault (sizes_of G) (sym e ∙ encodes_opened words G c) })
@@ -158,7 +156,7 @@ diagnosed_opened (w ∷ ws) short = go (is_within d.nonterminals max_nonterminal
     ok : Bool
     ok = is_within d.nonterminals max_nonterminals && is_within d.terminals max_terminals
 
-    headed_fault : ok ≡ false → Diagnosis (w ∷ ws) (Faulty HeadingFault)
+    headed_fault : ok ≡ false → Diagnosis (w ∷ ws) (Err HeadingFault)
     headed_fault c =
         diagnosed_heading (w ∷ ws) short (rw c)
         (λ _ b. false≢true (sym c ∙ (chosen ok (scan (fresh d) 1 b.rest) (sizes_of b.grammar) (encodes_opened (w ∷ b.rest) b.grammar b.encodes)).0))
@@ -178,11 +176,11 @@ diagnosed_opened (w ∷ ws) short = go (is_within d.nonterminals max_nonterminal
           end = λ e. rw n at (f.end (omega arith));
         }
 
-    behind : ok ≡ true → (o : Reading) → scan (fresh d) 1 ws ≡ o → Diagnosis (w ∷ ws) o
-    behind c (Read z) e = let r = opened_encodes (w ∷ ws) z (rw c e) in rw r.1 (Diagnosis.encoding short r.0)
-    behind c (Faulty x) e = let f = faults (fresh d) 1 ws x e in diagnosed_place (w ∷ ws) (suc f.before) x short (rw c e) (place c x f)
+    behind : ok ≡ true → (o : Result Sizes Error) → scan (fresh d) 1 ws ≡ o → Diagnosis (w ∷ ws) o
+    behind c (Ok z) e = let r = opened_encodes (w ∷ ws) z (rw c e) in rw r.1 (Diagnosis.encoding short r.0)
+    behind c (Err x) e = let f = faults (fresh d) 1 ws x e in diagnosed_place (w ∷ ws) (suc f.before) x short (rw c e) (place c x f)
 
-    go : (b : Bool) → ok ≡ b → Diagnosis (w ∷ ws) (choose b (scan (fresh d) 1 ws) (Faulty HeadingFault))
+    go : (b : Bool) → ok ≡ b → Diagnosis (w ∷ ws) (choose b (scan (fresh d) 1 ws) (Err HeadingFault))
     go false c = headed_fault c
     go true c = behind c (scan (fresh d) 1 ws) refl
 
@@ -190,6 +188,6 @@ pub diagnosed_reading : (words : List ℕ) → Diagnosis words (reading words)
 unfolding reading
 diagnosed_reading words = go (ltb max_words (length words)) refl
   where
-    go : (b : Bool) → ltb max_words (length words) ≡ b → Diagnosis words (choose b (Faulty Length) (opened words))
+    go : (b : Bool) → ltb max_words (length words) ≡ b → Diagnosis words (choose b (Err Length) (opened words))
     go true e = Diagnosis.long (ltb-true max_words (length words) e)
     go false e = diagnosed_opened words (ltb-false max_words (length words) e)

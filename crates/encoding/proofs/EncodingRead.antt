@@ -1,4 +1,5 @@
 -- The words of a well-formed grammar within the limits are read without a fault.
+use Rattle.std.specs.Prelude.{Ok}
 use mathlib.Core.Path.{◌≡◌, refl, ap, ◌∙◌}
 use mathlib.Core.Bool.{true, false}
 use mathlib.Core.List.Memᴰ
@@ -16,7 +17,6 @@ use Rattle.grammar.specs.declared.reading.State.{State}
 use Rattle.grammar.specs.declared.reading.State.TheVariants.{Before, Opened, InPositive, InNegative, Closed}
 use Rattle.grammar.specs.declared.reading.Sizes.{Sizes}
 use Rattle.grammar.specs.declared.reading.Progress.{Progress}
-use Rattle.grammar.specs.declared.reading.Reading.TheVariants.{Read}
 use Rattle.grammar.specs.Limits.{max_nonterminals, max_terminals, max_rules}
 use Rattle.grammar.specs.Syntax.{Body, Rule, Grammar, WellFormed}
 use Rattle.grammar.specs.Encoding.{sizes}
@@ -31,7 +31,7 @@ use Rattle.encoding.proofs.Decoding.{each_rest, symbol_of, rest_of, rules_fit}
 
 -- the words are read without a fault, wherever they stand
 abbrev pub Goes : Progress → List ℕ → Sizes → Type 0
-Goes p ws z = (at : ℕ) → scan p at ws ≡ Read z
+Goes p ws z = (at : ℕ) → scan p at ws ≡ Ok z
 
 -- one word that begins no rule, and one that begins a rule
 pub goes_word : (w : ℕ) (v : Word) (s : State) (y z : Sizes) (ws : List ℕ) → decoded w ≡ v → allows v s ≡ true → in_range v y ≡ true
@@ -141,7 +141,7 @@ unfolding is_within
 within_true n m l h = rw (lt-ltb 0 n l, le-leb n m h)
 
 -- all, but for the limit on the number of words
-pub encode_opened : (G : Grammar) → WellFormed G → WithinLimits G → opened (encode G) ≡ Read (sizes_of G)
+pub encode_opened : (G : Grammar) → WellFormed G → WithinLimits G → opened (encode G) ≡ Ok (sizes_of G)
 unfolding opened headed encode
 encode_opened G f l =
     let n : G.nonterminals < 2 ^ 8 = omega (arith, l.few_nonterminals) in
@@ -152,7 +152,7 @@ encode_opened G f l =
       within_true G.terminals max_terminals l.some_terminal l.few_terminals,
     )
     (rules_go G.nonterminals G.terminals n t G.rules Before 0 refl (omega (arith, l.few_rules)) (rules_fit G f) 1
-    ∙ ap (λ k. Read (sizes G.nonterminals G.terminals k)) (none (length G.rules)))
+    ∙ ap (λ k. Ok (sizes G.nonterminals G.terminals k)) (none (length G.rules)))
   where
     none : (k : ℕ) → 0 + k ≡ k
     none k = omega arith

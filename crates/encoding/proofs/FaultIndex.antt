@@ -1,4 +1,5 @@
 -- The index of a fault: the words before it begin an encoding, with the word at it they do not, and which words might stand there.
+use Rattle.std.specs.Prelude.{Err, Ok}
 use mathlib.Core.Path.{◌≡◌, refl, sym, ◌∙◌}
 use mathlib.Core.Bool.{true}
 use mathlib.Core.List.{List, [], ◌∷◌, ◌++◌, append_assoc}
@@ -12,14 +13,12 @@ use Rattle.word.specs.declared.Word.TheVariants.{Symbol}
 use Rattle.word.specs.Words.{decoded}
 use Rattle.grammar.specs.declared.reading.Sizes.{Sizes}
 use Rattle.grammar.specs.declared.reading.Progress.{Progress}
-use Rattle.grammar.specs.declared.reading.Step.TheVariants.{Go, Stop}
-use Rattle.grammar.specs.declared.reading.Reading.TheVariants.{Read}
 use Rattle.grammar.specs.Syntax.{Grammar}
 use Rattle.grammar.specs.Encoding.{grammar_of}
 use Rattle.grammar.specs.Reading.{symbol_in_range, stepped, scan, opened}
 use Rattle.encoding.specs.Encode.{symbol_word, end_word, sizes_of, Encodes}
 use Rattle.encoding.specs.Diagnosis.{BeginsEncoding}
-use Rattle.grammar.proofs.WellFormed.{never, step_passed, onward}
+use Rattle.grammar.proofs.WellFormed.{faulty, step_passed, onward}
 use Rattle.encoding.proofs.Words.{decoded_end}
 use Rattle.encoding.proofs.EncodingRead.{Within, Between, within_between, goes_word, end_goes}
 use Rattle.encoding.proofs.ReadingEncodes.{opened_encodes, encodes_opened}
@@ -33,10 +32,10 @@ pub record Place (words : List ℕ) (i : ℕ) (x : Error) : Type 0 where
   pub among : i ≤ length words
   pub some_nonterminal : 0 < come.sizes.nonterminals
   pub some_terminal : 0 < come.sizes.terminals
-  pub word : i < length words → stepped (decoded (get_or words i 0)) come i ≡ Stop x
+  pub word : i < length words → stepped (decoded (get_or words i 0)) come i ≡ Err x
   pub end : i ≡ length words → x ≡ UnexpectedWord i
 
-pub begins : (ws rest : List ℕ) (z : Sizes) → opened (ws ++ rest) ≡ Read z → BeginsEncoding ws
+pub begins : (ws rest : List ℕ) (z : Sizes) → opened (ws ++ rest) ≡ Ok z → BeginsEncoding ws
 begins ws rest z e = record { rest = rest; grammar = grammar_of (ws ++ rest); encodes = (opened_encodes (ws ++ rest) z e).0 }
 
 -- a fault at an index, by the words before it and the word at it
@@ -47,11 +46,11 @@ module _ (words : List ℕ) (i : ℕ) (x : Error) (h : Place words i x) where
       begins (take i words) rest h.come.sizes (h.opens rest ∙ complete h.come.state h.come.sizes i)
 
   -- the words before the index, and behind them others that make an encoding
-  scanned : (us : List ℕ) (G : Grammar) → Encodes (take i words ++ us) G → scan h.come i us ≡ Read (sizes_of G)
+  scanned : (us : List ℕ) (G : Grammar) → Encodes (take i words ++ us) G → scan h.come i us ≡ Ok (sizes_of G)
   scanned us G e = sym (h.opens us) ∙ encodes_opened (take i words ++ us) G e
 
   -- a word that goes on
-  goes_on : (w : ℕ) (us : List ℕ) (G : Grammar) → Encodes (take i words ++ (w ∷ us)) G → (q : Progress) × (stepped (decoded w) h.come i ≡ Go q)
+  goes_on : (w : ℕ) (us : List ℕ) (G : Grammar) → Encodes (take i words ++ (w ∷ us)) G → (q : Progress) × (stepped (decoded w) h.come i ≡ Ok q)
   unfolding scan
   goes_on w us G e = let g = onward (stepped (decoded w) h.come i) (λ q. scan q (suc i) us) (sizes_of G) (scanned (w ∷ us) G e) in (g.0, g.1)
 
@@ -62,11 +61,11 @@ module _ (words : List ℕ) (i : ℕ) (x : Error) (h : Place words i x) where
       next : ℕ
       next = get_or words i 0
 
-      clash : (q : Progress) × (stepped (decoded next) h.come i ≡ Go q) → ⊥
-      clash g = never x g.0 (sym (h.word l) ∙ g.1)
+      clash : (q : Progress) × (stepped (decoded next) h.come i ≡ Ok q) → ⊥
+      clash g = faulty x g.0 (sym (h.word l) ∙ g.1)
 
   -- a rule may begin where the grammar may end, and a symbol stand where another of its kind may
-  pub may_end : Between h.come.state → opened (take i words ++ (end_word ∷ [])) ≡ Read h.come.sizes
+  pub may_end : Between h.come.state → opened (take i words ++ (end_word ∷ [])) ≡ Ok h.come.sizes
   may_end a = h.opens (end_word ∷ []) ∙ end_goes h.come.state h.come.sizes a i
 
   pub may_stand : (X : symbol.Symbol) → decoded (symbol_word X) ≡ Symbol X → Within h.come.state → symbol_in_range X h.come.sizes ≡ true

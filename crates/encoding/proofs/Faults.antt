@@ -1,4 +1,5 @@
 -- A reading that finds a fault: how far the words before it lead, and what stands at it.
+use Rattle.std.specs.Prelude.{Err, Ok, Result}
 use mathlib.Core.Path.{◌≡◌, refl, sym, ◌∙◌}
 use mathlib.Core.Bool.{true, false}
 use mathlib.Core.List.{List, [], ◌∷◌, ◌++◌}
@@ -16,14 +17,11 @@ use Rattle.grammar.specs.declared.reading.State.{State}
 use Rattle.grammar.specs.declared.reading.State.TheVariants.{Before, Opened, InPositive, InNegative, Closed}
 use Rattle.grammar.specs.declared.reading.Sizes.{Sizes}
 use Rattle.grammar.specs.declared.reading.Progress.{Progress}
-use Rattle.grammar.specs.declared.reading.Step.{Step}
-use Rattle.grammar.specs.declared.reading.Step.TheVariants.{Go, Stop}
-use Rattle.grammar.specs.declared.reading.Reading.TheVariants.{Read, Faulty}
 use Rattle.grammar.specs.Limits.{max_rules}
 use Rattle.grammar.specs.Reading.{row, progress, counted, stepped, on_step, finished, scan}
 use Rattle.encoding.specs.Encode.{positive_word, end_word}
 use Rattle.grammar.proofs.Scanning.{stepped_rule, stepped_other, Stepped, stepping}
-use Rattle.grammar.proofs.WellFormed.{faulty, never, step_passed}
+use Rattle.grammar.proofs.WellFormed.{faulty, step_passed}
 use Rattle.encoding.proofs.Words.{decoded_positive}
 use Rattle.encoding.proofs.EncodingRead.{Goes, goes_word, closed_goes, end_goes}
 
@@ -42,33 +40,30 @@ complete InPositive y = end_goes InPositive y refl
 complete InNegative y = end_goes InNegative y refl
 complete Closed y = closed_goes y
 
-pub stop_same : (x y : Error) → Stop x ≡ Stop y → y ≡ x
-stop_same x y e = cc
-
-faulty_same : (x y : Error) → Faulty x ≡ Faulty y → y ≡ x
-faulty_same x y e = cc
+pub err_same : {T : Type 0} (x y : Error) → ◌≡◌ {A = Result T Error} (Err x) (Err y) → y ≡ x
+err_same x y e = cc
 
 -- a word that goes on does so wherever it stands
-pub goes_anywhere : (w : Word) (p q : Progress) (at j : ℕ) → stepped w p at ≡ Go q → stepped w p j ≡ Go q
+pub goes_anywhere : (w : Word) (p q : Progress) (at j : ℕ) → stepped w p at ≡ Ok q → stepped w p j ≡ Ok q
 unfolding counted
 goes_anywhere w p q at j e = go (stepped w p at) (stepping w p at) e
   where
-    go : (t : Step) → Stepped w p at t → t ≡ Go q → stepped w p j ≡ Go q
-    go _ (Stepped.unexpected a) g = absurd (never (UnexpectedWord at) q g)
-    go _ (Stepped.out_of_range a i) g = absurd (never (OutOfRange at) q g)
-    go _ (Stepped.too_many a i b l) g = absurd (never (TooManyRules at) q g)
+    go : (t : Result Progress Error) → Stepped w p at t → t ≡ Ok q → stepped w p j ≡ Ok q
+    go _ (Stepped.unexpected a) g = absurd (faulty (UnexpectedWord at) q g)
+    go _ (Stepped.out_of_range a i) g = absurd (faulty (OutOfRange at) q g)
+    go _ (Stepped.too_many a i b l) g = absurd (faulty (TooManyRules at) q g)
     go _ (Stepped.rule a i b l) g = rw (stepped_rule w p j a i b, lt-leb max_rules p.sizes.rules l) g
     go _ (Stepped.other a i b) g = rw (stepped_other w p j a i b) g
 
-end_missing : (p : Progress) (at : ℕ) (x : Error) → finished p at ≡ Faulty x → x ≡ UnexpectedWord at
+end_missing : (p : Progress) (at : ℕ) (x : Error) → finished p at ≡ Err x → x ≡ UnexpectedWord at
 unfolding finished
 end_missing p at x e = go p.state e
   where
-    go : (s : State) → choose (row false false false false true s) (Read p.sizes) (Faulty (UnexpectedWord at)) ≡ Faulty x → x ≡ UnexpectedWord at
-    go Before e = faulty_same (UnexpectedWord at) x e
-    go Opened e = faulty_same (UnexpectedWord at) x e
-    go InPositive e = faulty_same (UnexpectedWord at) x e
-    go InNegative e = faulty_same (UnexpectedWord at) x e
+    go : (s : State) → choose (row false false false false true s) (Ok p.sizes) (Err (UnexpectedWord at)) ≡ Err x → x ≡ UnexpectedWord at
+    go Before e = err_same (UnexpectedWord at) x e
+    go Opened e = err_same (UnexpectedWord at) x e
+    go InPositive e = err_same (UnexpectedWord at) x e
+    go InNegative e = err_same (UnexpectedWord at) x e
     go Closed e = absurd (faulty x p.sizes (sym e))
 
 -- before the fault there are so many words, which lead to `come` whatever follows them
@@ -79,10 +74,10 @@ pub record Faults (p : Progress) (at : ℕ) (ws : List ℕ) (x : Error) : Type 0
   pub nonterminals : come.sizes.nonterminals ≡ p.sizes.nonterminals
   pub terminals : come.sizes.terminals ≡ p.sizes.terminals
   pub among : before ≤ length ws
-  pub word : before < length ws → stepped (decoded (get_or ws before 0)) come (at + before) ≡ Stop x
+  pub word : before < length ws → stepped (decoded (get_or ws before 0)) come (at + before) ≡ Err x
   pub end : before ≡ length ws → x ≡ UnexpectedWord (at + before)
 
-pub faults : (p : Progress) (at : ℕ) (ws : List ℕ) (x : Error) → scan p at ws ≡ Faulty x → Faults p at ws x
+pub faults : (p : Progress) (at : ℕ) (ws : List ℕ) (x : Error) → scan p at ws ≡ Err x → Faults p at ws x
 unfolding scan on_step
 faults p at [] x e = record {
   before = 0;
@@ -96,19 +91,19 @@ faults p at [] x e = record {
 }
 faults p at (w ∷ ws) x e = go (stepped (decoded w) p at) refl e (λ q. faults q (suc at) ws x)
   where
-    go : (t : Step) → stepped (decoded w) p at ≡ t → on_step t (λ q. scan q (suc at) ws) ≡ Faulty x
-        → ((q : Progress) → scan q (suc at) ws ≡ Faulty x → Faults q (suc at) ws x) → Faults p at (w ∷ ws) x
-    go (Stop y) t e f = record {
+    go : (t : Result Progress Error) → stepped (decoded w) p at ≡ t → on_step t (λ q. scan q (suc at) ws) ≡ Err x
+        → ((q : Progress) → scan q (suc at) ws ≡ Err x → Faults q (suc at) ws x) → Faults p at (w ∷ ws) x
+    go (Err y) t e f = record {
       before = 0;
       come = p;
       through = λ us j. let n : j + 0 ≡ j = omega arith in rw n;
       nonterminals = refl;
       terminals = refl;
       among = omega arith;
-      word = λ _. let n : at + 0 ≡ at = omega arith in rw (n, faulty_same y x e) t;
+      word = λ _. let n : at + 0 ≡ at = omega arith in rw (n, err_same y x e) t;
       end = λ e. absurd (omega arith);
     }
-    go (Go q) t e f =
+    go (Ok q) t e f =
         let h = f q e in
         let k = step_passed (decoded w) p q at t in
         let n : at + suc h.before ≡ suc at + h.before = omega arith in

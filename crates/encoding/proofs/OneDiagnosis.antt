@@ -1,4 +1,6 @@
 -- A row of words has at most one diagnosis.
+use Rattle.std.specs.Prelude.{Err, Ok, Result}
+use Rattle.grammar.specs.declared.reading.Sizes.{Sizes}
 use mathlib.Core.Path.{◌≡◌, refl, ap}
 use mathlib.Core.List.{List, [], ◌∷◌, ◌++◌, append_assoc}
 use Prim.Native.Nat.{ℕ, zero, suc, ◌≤◌, ◌<◌}
@@ -6,8 +8,6 @@ use native.Mathlib.Omega.{arith}
 use native.Mathlib.Decide.{dec_lt}
 use lib.ListN.{length, take}
 use Rattle.answer.specs.declared.Error.{Error}
-use Rattle.grammar.specs.declared.reading.Reading.{Reading}
-use Rattle.grammar.specs.declared.reading.Reading.TheVariants.{Read, Faulty}
 use Rattle.grammar.specs.Syntax.{Grammar}
 use Rattle.encoding.specs.Encode.{end_word, sizes_of}
 use Rattle.encoding.specs.Diagnosis.{BeginsEncoding, FirstFault, OutOfRangeAt, RuleTooMany, WordFault, Diagnosis}
@@ -69,8 +69,8 @@ one_fault words i _ _ (WordFault.too_many t) (WordFault.unexpected n m) = absurd
 one_fault words i _ _ (WordFault.too_many t) (WordFault.out_of_range o) = absurd (ranged_not_many words i o t)
 one_fault words i _ _ (WordFault.too_many t) (WordFault.too_many t') = refl
 
-pub one_diagnosis : (words : List ℕ) (o u : Reading) → Diagnosis words o → Diagnosis words u → o ≡ u
-one_diagnosis words _ _ (Diagnosis.encoding {G} s e) (Diagnosis.encoding {G = H} t f) = ap (λ F. Read (sizes_of F)) (encode_injective words G H e f)
+pub one_diagnosis : (words : List ℕ) (o u : Result Sizes Error) → Diagnosis words o → Diagnosis words u → o ≡ u
+one_diagnosis words _ _ (Diagnosis.encoding {G} s e) (Diagnosis.encoding {G = H} t f) = ap (λ F. Ok (sizes_of F)) (encode_injective words G H e f)
 one_diagnosis words _ _ (Diagnosis.encoding s e) (Diagnosis.long t) = absurd (omega arith)
 one_diagnosis words _ _ (Diagnosis.encoding {G} s e) (Diagnosis.heading t f) = absurd (f.whole G e)
 one_diagnosis words _ _ (Diagnosis.encoding {G} s e) (Diagnosis.behind t l f x) = absurd (f.whole G e)
@@ -86,4 +86,4 @@ one_diagnosis words _ _ (Diagnosis.behind s k e x) (Diagnosis.encoding {G} t f) 
 one_diagnosis words _ _ (Diagnosis.behind s k e x) (Diagnosis.long t) = absurd (omega arith)
 one_diagnosis words _ _ (Diagnosis.behind {i} s k e x) (Diagnosis.heading t f) = absurd (omega (arith, first_unique words i 0 e f))
 one_diagnosis words _ _ (Diagnosis.behind {i} {x} s k e v) (Diagnosis.behind {i = j} {x = y} t l f w) =
-    ap Faulty (one_fault words j x y (rw (first_unique words i j e f) at v) w)
+    ap Err (one_fault words j x y (rw (first_unique words i j e f) at v) w)

@@ -1,4 +1,5 @@
 -- A row that is read without a fault is the words of the grammar that it encodes.
+use Rattle.std.specs.Prelude.{Ok}
 use mathlib.Core.Path.{◌≡◌, refl, sym, ◌∙◌}
 use mathlib.Core.Bool.{true, false, ◌&&◌, false≢true}
 use mathlib.Core.List.{List, [], ◌∷◌}
@@ -16,7 +17,6 @@ use Rattle.grammar.specs.declared.reading.State.{State}
 use Rattle.grammar.specs.declared.reading.State.TheVariants.{Before, Opened, InPositive, InNegative, Closed}
 use Rattle.grammar.specs.declared.reading.Sizes.{Sizes}
 use Rattle.grammar.specs.declared.reading.Progress.{Progress}
-use Rattle.grammar.specs.declared.reading.Reading.TheVariants.{Read}
 use Rattle.grammar.specs.Limits.{max_words, max_nonterminals, max_terminals}
 use Rattle.grammar.specs.Syntax.{Grammar}
 use Rattle.grammar.specs.Encoding.{Parsed, on_word, parse, sizes, declared_by, grammar_of}
@@ -76,7 +76,7 @@ unparsed_allowed v Closed ws a e = absurd (false≢true (sym (closed v) ∙ a))
     closed (Heading n t) = refl
     closed Invalid = refl
 
-unparsed : (p : Progress) (at : ℕ) (ws : List ℕ) (z : Sizes) → scan p at ws ≡ Read z → Unparsed p.state ws
+unparsed : (p : Progress) (at : ℕ) (ws : List ℕ) (z : Sizes) → scan p at ws ≡ Ok z → Unparsed p.state ws
 unfolding scan parse
 unparsed p at [] z e = rw (finished_read p at z e).0 refl
 unparsed p at (w ∷ ws) z e =
@@ -110,7 +110,7 @@ same_sizes y z n t r =
 -- by the first word and the reading behind it
 module _ (w : ℕ) (ws : List ℕ) (z : Sizes)
     (n : Within (declared_by (decoded w)).nonterminals max_nonterminals) (t : Within (declared_by (decoded w)).terminals max_terminals)
-    (e : scan (fresh (declared_by (decoded w))) 1 ws ≡ Read z) where
+    (e : scan (fresh (declared_by (decoded w))) 1 ws ≡ Ok z) where
   told : Reads (fresh (declared_by (decoded w))) z (parse ws)
   told = reads (fresh (declared_by (decoded w))) 1 ws z e
 
@@ -145,7 +145,7 @@ module _ (w : ℕ) (ws : List ℕ) (z : Sizes)
   headed_sizes = same_sizes z (sizes_of (grammar_of (w ∷ ws))) told.nonterminals told.terminals count
 
 -- a row read without a fault, but for the limit on the number of words, is the encoding of its grammar
-pub opened_encodes : (words : List ℕ) (z : Sizes) → opened words ≡ Read z → Encodes words (grammar_of words) × (z ≡ sizes_of (grammar_of words))
+pub opened_encodes : (words : List ℕ) (z : Sizes) → opened words ≡ Ok z → Encodes words (grammar_of words) × (z ≡ sizes_of (grammar_of words))
 unfolding opened headed
 opened_encodes [] z e = absurd (faulty HeadingFault z e)
 opened_encodes (w ∷ ws) z e =
@@ -156,11 +156,11 @@ opened_encodes (w ∷ ws) z e =
     let t = within_limits d.terminals max_terminals b.1 in
     (headed_encodes w ws z n t c.1, headed_sizes w ws z n t c.1)
 
-pub encodes_opened : (words : List ℕ) (G : Grammar) → Encodes words G → opened words ≡ Read (sizes_of G)
+pub encodes_opened : (words : List ℕ) (G : Grammar) → Encodes words G → opened words ≡ Ok (sizes_of G)
 encodes_opened words G h = rw h.encoded (encode_opened G h.formed h.limited)
 
 -- the rows read without a fault are the encodings of at most 2,048 words
-pub read_encodes : (words : List ℕ) (z : Sizes) → reading words ≡ Read z
+pub read_encodes : (words : List ℕ) (z : Sizes) → reading words ≡ Ok z
     → (length words ≤ max_words) × Encodes words (grammar_of words) × (z ≡ sizes_of (grammar_of words))
 unfolding reading
 read_encodes words z e =
@@ -168,13 +168,13 @@ read_encodes words z e =
     let r = opened_encodes words z s.1 in
     (ltb-false max_words (length words) s.0, r.0, r.1)
 
-pub encodes_read : (words : List ℕ) (G : Grammar) → length words ≤ max_words → Encodes words G → reading words ≡ Read (sizes_of G)
+pub encodes_read : (words : List ℕ) (G : Grammar) → length words ≤ max_words → Encodes words G → reading words ≡ Ok (sizes_of G)
 unfolding reading
 encodes_read words G l e = rw (le-ltb max_words (length words) l) (encodes_opened words G e)
 
 pub reading_encodes : (words : List ℕ) (z : Sizes)
-    → (reading words ≡ Read z) ↔ ((length words ≤ max_words) × ((G : Grammar) × (Encodes words G × (z ≡ sizes_of G))))
+    → (reading words ≡ Ok z) ↔ ((length words ≤ max_words) × ((G : Grammar) × (Encodes words G × (z ≡ sizes_of G))))
 reading_encodes words z = (λ e. let r = read_encodes words z e in (r.0, (grammar_of words, (r.1, r.2))), back)
   where
-    back : (length words ≤ max_words) × ((G : Grammar) × (Encodes words G × (z ≡ sizes_of G))) → reading words ≡ Read z
+    back : (length words ≤ max_words) × ((G : Grammar) × (Encodes words G × (z ≡ sizes_of G))) → reading words ≡ Ok z
     back (l, (G, (e, s))) = rw s (encodes_read words G l e)

@@ -1,11 +1,10 @@
 -- What is to be told of a row of words: the sizes of the grammar that it encodes, or its first fault. No reading occurs in it.
-use Rattle.std.specs.Prelude.{◌≡◌, List, [], ◌∷◌, ◌++◌, ℕ, suc, ◌≤◌, ◌<◌, length, take, get_or}
+use Rattle.std.specs.Prelude.{Err, Ok, Result, ◌≡◌, List, [], ◌∷◌, ◌++◌, ℕ, suc, ◌≤◌, ◌<◌, length, take, get_or}
+use Rattle.grammar.specs.declared.reading.Sizes.{Sizes}
 use Rattle.answer.specs.declared.Error.{Error}
 use Rattle.answer.specs.declared.Error.TheVariants.{Length, Heading, UnexpectedWord, OutOfRange, TooManyRules}
 use Rattle.word.specs.declared.Symbol.TheVariants.{Terminal, Nonterminal}
 use Rattle.word.specs.Words.{kind, payload}
-use Rattle.grammar.specs.declared.reading.Reading.{Reading}
-use Rattle.grammar.specs.declared.reading.Reading.TheVariants.{Read, Faulty}
 use Rattle.grammar.specs.Limits.{max_words, max_rules}
 use Rattle.grammar.specs.Syntax.{Grammar}
 use Rattle.encoding.specs.Encode.{symbol_word, end_word, sizes_of, Encodes}
@@ -50,8 +49,8 @@ pub data WordFault (words : List ℕ) (i : ℕ) : Error → Type 0 where
   too_many : RuleTooMany words i → WordFault words i (TooManyRules i)
 
 -- 3, 4, a fault of the first faulty word, or none of them
-pub data Diagnosis (words : List ℕ) : Reading → Type 0 where
-  long : max_words < length words → Diagnosis words (Faulty Length)
-  heading : length words ≤ max_words → FirstFault words 0 → Diagnosis words (Faulty Heading)
-  behind : {i : ℕ} {x : Error} → length words ≤ max_words → 0 < i → FirstFault words i → WordFault words i x → Diagnosis words (Faulty x)
-  encoding : {G : Grammar} → length words ≤ max_words → Encodes words G → Diagnosis words (Read (sizes_of G))
+pub data Diagnosis (words : List ℕ) : Result Sizes Error → Type 0 where
+  long : max_words < length words → Diagnosis words (Err Length)
+  heading : length words ≤ max_words → FirstFault words 0 → Diagnosis words (Err Heading)
+  behind : {i : ℕ} {x : Error} → length words ≤ max_words → 0 < i → FirstFault words i → WordFault words i x → Diagnosis words (Err x)
+  encoding : {G : Grammar} → length words ≤ max_words → Encodes words G → Diagnosis words (Ok (sizes_of G))

@@ -14,25 +14,16 @@ pub fn terminal_of(event: u8) -> u8
     event % DIRECTION
 }
 
-#[derive(Clone, Copy)]
-pub enum Unknown {
-    Absent,
-    At(usize),
-}
-
 // The first event that is no terminal of a grammar.
 #[tactic(auto, using(crate::proofs::Known::unknown_here))]
-pub fn first_unknown(events: &[u8], terminals: u32) -> Unknown
+pub fn first_unknown(events: &[u8], terminals: u32) -> Option<usize>
     ensures { result ≡ unknown_from terminals 0 (input_of events.now) }
 {
-    let mut at = 0;
-    while at < events.len() {
-        let event = events[at];
-        let terminal = terminal_of(event);
+    for (at, event) in events.iter().enumerate() {
+        let terminal = terminal_of(*event);
         if terminals <= terminal as u32 {
-            return Unknown::At(at);
+            return Some(at);
         }
-        at = at + 1;
     }
-    Unknown::Absent
+    None
 }

@@ -1,10 +1,10 @@
 -- A grammar that is admitted has been read, and has no more terminals than its lookahead allows.
+use Rattle.std.specs.Prelude.{Ok}
 use mathlib.Core.Path.{◌≡◌}
 use mathlib.Core.List.{List}
 use Prim.Native.Nat.{ℕ, ◌≤◌}
 use native.Mathlib.Omega.{arith}
 use Rattle.grammar.specs.declared.reading.Sizes.{Sizes}
-use Rattle.grammar.specs.declared.reading.Reading.TheVariants.{Read}
 use Rattle.grammar.specs.Encoding.{grammar_of}
 use Rattle.grammar.specs.Reading.{reading}
 use Rattle.grammar.proofs.WellRead.{well_read}
@@ -14,8 +14,8 @@ use Rattle.lookahead.specs.inner.Lookaheads.{alphabet}
 use Rattle.admission.specs.Admission.{admission, Fits}
 use Rattle.admission.proofs.Admitted.{admitted}
 
-module _ (k : Lookahead) (words : List ℕ) {z : Sizes} (e : admission k words ≡ Read z) where
-  pub admitted_read : reading words ≡ Read z
+module _ (k : Lookahead) (words : List ℕ) {z : Sizes} (e : admission k words ≡ Ok z) where
+  pub admitted_read : reading words ≡ Ok z
   admitted_read = ((admitted k words z).0 e).0
 
   pub few_terminals_lem : (grammar_of words).terminals ≤ alphabet k

@@ -1,4 +1,5 @@
 -- A pass that adds nothing to the first sets has kept, for each rule, what its positives can all begin with by these sets.
+use Rattle.std.specs.Prelude.{Ok}
 use mathlib.Core.Path.{◌≡◌, refl, sym, fun_ext, ◌∙◌}
 use mathlib.Core.Bool.{Bool, true, false, true≢false, ◌||◌}
 use mathlib.Core.List.{List}
@@ -7,7 +8,6 @@ use Prim.Native.Nat.{ℕ, ◌+◌, ◌≤◌, ◌<◌}
 use native.Mathlib.Omega.{arith}
 use lib.ListN.{get_or, get_elem?, set}
 use Rattle.grammar.specs.declared.reading.Sizes.{Sizes}
-use Rattle.grammar.specs.declared.reading.Reading.TheVariants.{Read}
 use Rattle.grammar.specs.Limits.{max_nonterminals, max_rules}
 use Rattle.grammar.specs.Syntax.{Rule}
 use Rattle.grammar.specs.Encoding.{grammar_of}
@@ -26,7 +26,7 @@ use Rattle.families.specs.inner.RuleLists.{by_rule}
 use Rattle.families.specs.inner.Rules.{turn_of, rule_from, ByRules, PassGiven}
 use Rattle.families.specs.Sets.{first_number}
 use Rattle.families.specs.inner.Sets.{meet_number, meet_numbers}
-use Rattle.families.proofs.ByRules.{FilledTo, filled_none, filled_next, filled_each, store_room, by_rule_is}
+use Rattle.families.proofs.ByRules.{FilledTo, filled_next, filled_each, store_room, by_rule_is}
 use Rattle.families.proofs.FewTerminals.{admitted_read, few_terminals_lem}
 use Rattle.families.proofs.FirstPasses.{rule_gives}
 use Rattle.families.proofs.HeadPasses.{rule_numbered}
@@ -42,10 +42,6 @@ given_by k t words l q = rule_gives k t (at l) (rule_numbered words q)
 pub record Meeting (k : Lookahead) (t : ℕ) (words : List ℕ) (n : ℕ) (forward : Bool) (l₀ meets : List ℕ) (grown : Bool) (i : ℕ) : Type 0 where
   pub room : ByRules n meets
   pub kept : grown ≡ false → FilledTo (given_by k t words l₀) n forward meets i
-
-pub meeting_start : (k : Lookahead) (t : ℕ) (words : List ℕ) {n : ℕ} (forward : Bool) (l₀ : List ℕ) {meets : List ℕ} → ByRules n meets
-    → Meeting k t words n forward l₀ meets false 0
-meeting_start k t words {n} forward l₀ {meets} room = record { room = room; kept = λ e. filled_none (given_by k t words l₀) n forward meets room }
 
 module _ {words starts : List ℕ} {z : Sizes} {l₀ : List ℕ} (p : PassGiven words starts z l₀) (forward : Bool) where
   few : z.rules ≤ max_rules
@@ -72,7 +68,7 @@ module _ {words starts : List ℕ} {z : Sizes} {l₀ : List ℕ} (p : PassGiven 
   meeting_end m h same = record { room = m.room; each = λ f q b. rw (same f) (filled_each forward (m.kept f) h q b) }
 
 -- by the first sets of a grammar that is admitted these are the numbers of its meetings
-module _ (k : Lookahead) (words : List ℕ) (z : Sizes) (taken : admission k words ≡ Read z) {firsts : List ℕ}
+module _ (k : Lookahead) (words : List ℕ) (z : Sizes) (taken : admission k words ≡ Ok z) {firsts : List ℕ}
     (f : firsts ≡ listed max_nonterminals (first_number k (grammar_of words))) where
   known : WellRead words z
   known = well_read words z (admitted_read k words taken)

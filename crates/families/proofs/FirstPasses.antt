@@ -3,11 +3,8 @@ use mathlib.Core.Path.{◌≡◌, refl, ◌∙◌}
 use mathlib.Core.List.{List, [], ◌∷◌}
 use Prim.Native.Nat.{ℕ, ◌+◌, ◌-◌}
 use native.Mathlib.Omega.{arith}
-use denote.Enum.Declared.{tag_of}
-use types.Run.{OneOf, miss}
 use lib.ListN.{take, drop}
 use lib.Seq.{drop-cons}
-use Rattle.word.specs.contracts.Word.{the_type}
 use Rattle.word.specs.declared.Symbol.{Symbol as GrammarSymbol}
 use Rattle.word.specs.declared.Symbol.TheVariants.{Terminal, Nonterminal}
 use Rattle.word.specs.declared.Word.{Word}
@@ -21,10 +18,9 @@ use Rattle.lookahead.specs.inner.Elements.{Subset}
 use Rattle.lookahead.specs.inner.Operations.{end, terminal, full}
 use Rattle.lookahead.proofs.Order.{subset_refl, meet_mono}
 use Rattle.lookahead.proofs.Concat.{concat_mono}
-use Rattle.families.specs.declared.Rest.{Rest}
 use Rattle.families.specs.inner.Least.{SetFamily, at, lookup, Under}
 use Rattle.families.specs.inner.Naming.{Indexed}
-use Rattle.families.specs.inner.First.{symbol_first, body_first, rule_first, sets, rest_of, no_rest, closed_meet, inside_word}
+use Rattle.families.specs.inner.First.{symbol_first, body_first, rule_first, rest_of, no_rest, inside_word}
 use Rattle.families.specs.inner.Rules.{fold_from_end, rule_from, Inside, RuleWords, NegativesFrom}
 use Rattle.families.proofs.ArrayLookup.{symbol_lookup}
 use Rattle.families.proofs.HeadPasses.{Larger}
@@ -59,26 +55,6 @@ inside_word_lem k t l End p i n b = rw b.positives
 inside_word_lem k t l (RuleWord A) p i n b = absurd i
 inside_word_lem k t l (Heading m z) p i n b = absurd i
 inside_word_lem k t l Invalid p i n b = absurd i
-
--- what `closed` and `inside` return for other words
-pub not_positive : (w : Word) (b m : ℕ) → OneOf (0 ∷ 1 ∷ 3 ∷ 4 ∷ 5 ∷ 6 ∷ []) (tag_of the_type w) → m ≡ closed_meet w b m
-not_positive Positive b m h = absurd (miss (0 ∷ 1 ∷ 3 ∷ 4 ∷ 5 ∷ 6 ∷ []) 2 tt h)
-not_positive (Symbol X) b m h = refl
-not_positive Negative b m h = refl
-not_positive End b m h = refl
-not_positive (RuleWord A) b m h = refl
-not_positive (Heading n t) b m h = refl
-not_positive Invalid b m h = refl
-
-pub first_closed : (k : Lookahead) (F : SetFamily) (w : Word) (rest : Rest) → OneOf (0 ∷ 1 ∷ 2 ∷ 3 ∷ 5 ∷ 6 ∷ []) (tag_of the_type w)
-    → sets (end k) (closed_meet w rest.body.bits rest.meet.bits) ≡ inside_word k F w rest
-first_closed k F (Symbol X) rest h = absurd (miss (0 ∷ 1 ∷ 2 ∷ 3 ∷ 5 ∷ 6 ∷ []) 4 tt h)
-first_closed k F Positive rest h = refl
-first_closed k F Negative rest h = refl
-first_closed k F End rest h = refl
-first_closed k F (RuleWord A) rest h = refl
-first_closed k F (Heading m n) rest h = refl
-first_closed k F Invalid rest h = refl
 
 -- what a rule gives, the more the larger the family
 abbrev pub rule_gives : Lookahead → ℕ → SetFamily → Rule → ℕ

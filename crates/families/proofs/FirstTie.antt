@@ -1,4 +1,5 @@
 -- The least family of sets that the rules close is FIRST of the grammar, in numbers.
+use Rattle.std.specs.Prelude.{Ok}
 use mathlib.Core.Path.{◌≡◌, refl}
 use mathlib.Core.List.Memᴰ
 use mathlib.Core.List.{List, [], ◌∷◌, Memᴰ}
@@ -7,7 +8,6 @@ use lib.Dec.{T}
 use lib.ListN.{length}
 use mir.Facts.{yes_and}
 use Rattle.grammar.specs.declared.reading.Sizes.{Sizes}
-use Rattle.grammar.specs.declared.reading.Reading.TheVariants.{Read}
 use Rattle.grammar.specs.Limits.{max_nonterminals}
 use Rattle.grammar.specs.Syntax.{Body, Rule, Grammar, WellFormed, TerminalsBelow}
 use Rattle.grammar.specs.Encoding.{parse, grammar_of}
@@ -132,7 +132,7 @@ pub full_closed : (k : Lookahead) (t : ℕ) (rs : List Rule) → FirstNumbersClo
 full_closed k t rs r m l s = has_full_rule k t (λ A. full k t) l r.positives s
 
 -- and so for the words of a grammar that is admitted
-pub first_listed : (k : Lookahead) (words : List ℕ) (z : Sizes) → admission k words ≡ Read z → (l : List ℕ) → length l ≡ max_nonterminals
+pub first_listed : (k : Lookahead) (words : List ℕ) (z : Sizes) → admission k words ≡ Ok z → (l : List ℕ) → length l ≡ max_nonterminals
     → LeastNumbers (FirstNumbersClosed k z.terminals (parse words).rules) l → l ≡ listed max_nonterminals (first_number k (grammar_of words))
 first_listed k words z e l n least =
     let read = admitted_read k words e in

@@ -1,4 +1,6 @@
 -- The flaws that are found in the arrays of a grammar's sets are those of the grammar: left recursion, and empty first sets.
+use Rattle.std.specs.Prelude.{Ok, Result}
+use Rattle.answer.specs.declared.Error.{Error}
 use mathlib.Core.Path.{◌≡◌, ◌∙◌}
 use mathlib.Core.List.{List}
 use Prim.Native.Nat.{ℕ, ◌≤◌, ◌<◌, min}
@@ -12,7 +14,6 @@ use Rattle.grammar.specs.Limits.{max_nonterminals}
 use Rattle.grammar.specs.Reading.{reading}
 use Rattle.admission.specs.Admission.{admission}
 use Rattle.grammar.specs.declared.reading.Sizes.{Sizes}
-use Rattle.grammar.specs.declared.reading.Reading.TheVariants.{Read}
 use Rattle.grammar.proofs.WellRead.{well_read}
 use Rattle.lookahead.specs.declared.Lookahead.{Lookahead}
 use Rattle.lookahead.specs.Lookaheads.{tokens, string_of}
@@ -27,7 +28,6 @@ use Rattle.semantics.specs.Productive.{unproductive, lowest_unproductive}
 use Rattle.semantics.proofs.families.First.{first_lookahead}
 use Rattle.semantics.proofs.families.Productive.{unproductive_iff}
 use Rattle.families.specs.declared.Flaw.TheVariants.{LeftRecursive, Unproductive}
-use Rattle.families.specs.declared.Finding.{Finding}
 use Rattle.base.specs.Lists.{listed}
 use Rattle.families.specs.Sets.{first_number}
 use Rattle.families.specs.inner.Sets.{reach_number}
@@ -39,9 +39,9 @@ use Rattle.families.proofs.Numbers.{in_number, element_passes}
 use Rattle.families.proofs.LowestTold.{lowest_cong}
 
 -- the words of a grammar that is admitted, with its first sets and what its nonterminals left-reach
-module _ (k : Lookahead) (words : List ℕ) {firsts reaches : List ℕ} {z : Sizes} (taken : admission k words ≡ Read z)
+module _ (k : Lookahead) (words : List ℕ) {firsts reaches : List ℕ} {z : Sizes} (taken : admission k words ≡ Ok z)
     (f : firsts ≡ listed max_nonterminals (first_number k (grammar_of words))) (g : reaches ≡ listed max_nonterminals (reach_number (grammar_of words))) where
-  read : reading words ≡ Read z
+  read : reading words ≡ Ok z
   read = admitted_read k words taken
 
   many : (grammar_of words).nonterminals ≤ max_nonterminals
@@ -89,7 +89,7 @@ module _ (k : Lookahead) (words : List ℕ) {firsts reaches : List ℕ} {z : Siz
       rw ((well_read words z read).nonterminals, lowest_cong G.nonterminals (flaw_in Unproductive firsts reaches) (unproductive G (tokens k)) empty_found)
 
   -- and what is found by them is what is found of the grammar
-  pub flaws_found : {r : Finding} → r ≡ finding_in z firsts reaches → r ≡ finding_of (sets_fault k words) (admission k words)
+  pub flaws_found : {r : Result Sizes Error} → r ≡ finding_in z firsts reaches → r ≡ finding_of (sets_fault k words) (admission k words)
   unfolding sets_fault
   flaws_found e =
       let all : min z.nonterminals max_nonterminals ≡ z.nonterminals = min-eq_left (well_read words z read).few_nonterminals in

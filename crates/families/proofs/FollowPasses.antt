@@ -8,11 +8,8 @@ use mathlib.Core.Option.{Option, none, some}
 use Prim.Native.Nat.{ℕ, zero, suc, ◌+◌, ◌-◌, ◌≤◌, ◌<◌}
 use native.Mathlib.Decide.{ℕ_discrete}
 use native.Mathlib.Omega.{arith}
-use denote.Enum.Declared.{tag_of}
-use types.Run.{OneOf, miss}
 use lib.ListN.{length, get_or, drop, set, replicate, length-set, length-replicate}
 use lib.Seq.{get_or-set_same, get_or-set_other}
-use Rattle.word.specs.contracts.Word.{the_type}
 use Rattle.word.specs.declared.Symbol.TheVariants.{Terminal, Nonterminal}
 use Rattle.word.specs.declared.Word.{Word}
 use Rattle.word.specs.declared.Word.TheVariants.{Heading, Rule as RuleWord, Positive, Negative, Symbol, End, Invalid}
@@ -175,17 +172,6 @@ tail_looked_up k l v (RuleWord A) tail n = refl
 tail_looked_up k l v (Heading m t) tail n = refl
 tail_looked_up k l v Invalid tail n = refl
 
--- what `tail_before` returns for a word that is no symbol
-pub tail_closed : (k : Lookahead) (F : SetFamily) (v : ℕ) (w : Word) (tail : ℕ)
-    → OneOf (0 ∷ 1 ∷ 2 ∷ 3 ∷ 5 ∷ 6 ∷ []) (tag_of the_type w) → v ≡ tail_before k F v w tail
-tail_closed k F v (Symbol X) tail h = absurd (miss (0 ∷ 1 ∷ 2 ∷ 3 ∷ 5 ∷ 6 ∷ []) 4 tt h)
-tail_closed k F v Positive tail h = refl
-tail_closed k F v Negative tail h = refl
-tail_closed k F v End tail h = refl
-tail_closed k F v (RuleWord A) tail h = refl
-tail_closed k F v (Heading m n) tail h = refl
-tail_closed k F v Invalid tail h = refl
-
 -- the words of a rule from one body on to another, from i on gone through
 pub record FollowWalk (k : Lookahead) (F : SetFamily) (u : ℕ) (words l₀ l : List ℕ) (from to : ℕ) (grown : Bool) (tail i : ℕ) : Type 0 where
   pub low : from ≤ i
@@ -267,17 +253,8 @@ module _ {words : List ℕ} {from to : ℕ} (given : BodyWords words from to) wh
         here none b a = tt
         here (some A) b a = rw v.is at (added_in (room b) a)
 
-  pub follow_end : {k : Lookahead} {F : SetFamily} {u : ℕ} {l₀ l : List ℕ} {grown : Bool} {tail i : ℕ} → FollowWalk k F u words l₀ l from to grown tail i
-      → i ≤ from → FollowTurn k F u (parse (drop from words)) l₀ l grown
-  follow_end {i = i} v h = let e : i ≡ from = omega (arith, v.low) in record { passing = v.passing; asked = rw e at v.asked }
-
 -- a rule by its parts
 module _ {words : List ℕ} {start end : ℕ} (given : RuleWords words start end) where
-  -- where what comes behind the bodies is as it was, nothing is to be added
-  pub follow_skipped : {k : Lookahead} {F : SetFamily} {v u : ℕ} {l : List ℕ} → Asked k F u (parse (drop (suc start) words)) (at l) → v ≡ u
-      → FollowTurn k F v (parse (drop (suc start) words)) l l false
-  follow_skipped {l = l} o e = record { passing = passing_none l tt; asked = rw e o }
-
   module _ {n : ℕ} (f : NegativesFrom words (start + 1) end n) where
     -- where they end nothing is asked
     pub none_asked : (k : Lookahead) (F : SetFamily) (v : ℕ) (L : SetFamily) → Asked k F v (parse (drop end words)) L

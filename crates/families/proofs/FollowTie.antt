@@ -1,4 +1,5 @@
 -- The least family of sets that the bodies close is FOLLOW of the grammar, in numbers.
+use Rattle.std.specs.Prelude.{Ok}
 use mathlib.Core.Path.{◌≡◌, sym, ap₂, subst, fun_ext, ◌∙◌}
 use mathlib.Core.List.{List, [], ◌∷◌, ◌++◌}
 use Prim.Native.Nat.{ℕ, ◌≤◌, ◌<◌}
@@ -7,7 +8,6 @@ use lib.Dec.{eqb→eq, eqb_refl}
 use lib.ListN.{length, take}
 use Rattle.word.specs.declared.Symbol.TheVariants.{Terminal, Nonterminal}
 use Rattle.grammar.specs.declared.reading.Sizes.{Sizes}
-use Rattle.grammar.specs.declared.reading.Reading.TheVariants.{Read}
 use Rattle.grammar.specs.Limits.{max_nonterminals}
 use Rattle.grammar.specs.Syntax.{Body, Rule, Grammar, WellFormed, TerminalsBelow}
 use Rattle.grammar.specs.Encoding.{parse, grammar_of}
@@ -110,7 +110,7 @@ full_closed k F rs =
     record { start = full_greatest k (alphabet k) (end k) (over_end k (alphabet k)); follows = λ r m b n. full_body k F b }
 
 -- and so for the words of a grammar that is admitted, and the array of its first sets
-module _ (k : Lookahead) (words : List ℕ) (z : Sizes) (e : admission k words ≡ Read z) (firsts : List ℕ)
+module _ (k : Lookahead) (words : List ℕ) (z : Sizes) (e : admission k words ≡ Ok z) (firsts : List ℕ)
     (f : firsts ≡ listed max_nonterminals (first_number k (grammar_of words))) where
   firsts_at : (A : ℕ) → at firsts A ≡ first_number k (grammar_of words) A
   unfolding first_number

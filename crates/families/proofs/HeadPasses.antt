@@ -1,4 +1,5 @@
 -- A pass of an analysis that joins into the set of each rule's head what the rule gives.
+use Rattle.std.specs.Prelude.{Ok}
 use mathlib.Core.Path.{◌≡◌, refl, ◌∙◌}
 use mathlib.Core.Bool.{Bool, ◌||◌}
 use mathlib.Core.List.{List, Memᴰ}
@@ -14,7 +15,6 @@ use Rattle.base.specs.Choice.{choose}
 use Rattle.word.specs.declared.Word.{Word}
 use Rattle.word.specs.Words.{decoded}
 use Rattle.grammar.specs.declared.reading.Sizes.{Sizes}
-use Rattle.grammar.specs.declared.reading.Reading.TheVariants.{Read}
 use Rattle.grammar.specs.Limits.{max_nonterminals, max_rules}
 use Rattle.grammar.specs.Syntax.{Rule}
 use Rattle.grammar.specs.Encoding.{parse}
@@ -46,7 +46,7 @@ abbrev pub Larger : (SetFamily → Rule → ℕ) → Type 0
 Larger given = (F G : SetFamily) → Under F G → (r : Rule) → Subset (given F r) (given G r)
 
 -- a pass over empty sets
-pub pass_first : {words starts : List ℕ} {z : Sizes} → reading words ≡ Read z → starts ≡ rule_starts words
+pub pass_first : {words starts : List ℕ} {z : Sizes} → reading words ≡ Ok z → starts ≡ rule_starts words
     → PassGiven words starts z (replicate max_nonterminals 0)
 pass_first r b = record { read = r; begins = b; long = refl }
 

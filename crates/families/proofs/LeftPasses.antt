@@ -2,11 +2,11 @@
 use mathlib.Core.Path.{◌≡◌, refl, ap, ◌∙◌}
 use mathlib.Core.Bool.{true, false}
 use mathlib.Core.List.{List, [], ◌∷◌, ◌++◌}
-use Prim.Native.Nat.{ℕ, ◌+◌, ◌-◌, ◌≤◌, ◌<◌}
+use Prim.Native.Nat.{ℕ, ◌+◌, ◌-◌, ◌<◌}
 use native.Mathlib.Omega.{arith}
 use lib.ListN.{take, drop}
 use lib.Seq.{drop-cons}
-use borrow.Author.Tests.{lt-ltb, le-ltb}
+use borrow.Author.Tests.{lt-ltb}
 use Rattle.word.specs.declared.Symbol.{Symbol as GrammarSymbol}
 use Rattle.word.specs.declared.Symbol.TheVariants.{Terminal, Nonterminal}
 use Rattle.word.specs.declared.Word.{Word}
@@ -18,7 +18,7 @@ use Rattle.grammar.specs.inner.WellRead.{rule_read}
 use Rattle.grammar.proofs.EachIndex.{Behind}
 use Rattle.lookahead.specs.Elements.{weight}
 use Rattle.lookahead.specs.inner.Elements.{Subset}
-use Rattle.lookahead.specs.inner.Operations.{empty_set, join, Empty, Joined}
+use Rattle.lookahead.specs.inner.Operations.{empty_set, join, Joined}
 use Rattle.lookahead.proofs.Order.{subset_refl, subset_antisym, join_left, join_right, join_least, join_same}
 use Rattle.base.specs.Rounds.{NumberSet}
 use Rattle.families.specs.inner.Left.{symbol_left, body_left, bodies_left, rule_left, lefts, left_of, own_left, inside_left}
@@ -48,12 +48,6 @@ unfolding alone
 left_alone {A} a h = a.is ∙ rw (lt-ltb A max_nonterminals h)
 
 module _ (s : NumberSet) {X : GrammarSymbol} (behind : ℕ) where
-  pub left_terminal : {a x : ℕ} → X ≡ Terminal a → Empty x → x ≡ own_left s X behind
-  left_terminal e n = n.is ∙ rw e
-
-  pub left_none : {A x : ℕ} → X ≡ Nonterminal A → max_nonterminals ≤ A → Empty x → x ≡ own_left s X behind
-  left_none {A} e h n = n.is ∙ rw (e, le-ltb A max_nonterminals h)
-
   module _ {A a : ℕ} (e : X ≡ Nonterminal A) (i : A < max_nonterminals) (alone : Alone A a) where
     pub left_on : {r : ℕ} → s A ≡ true → Joined a behind r → r ≡ own_left s X behind
     unfolding symbol_left

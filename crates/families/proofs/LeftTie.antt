@@ -1,4 +1,5 @@
 -- The closure of what is at the left of the rules is what the nonterminals left-reach, in numbers.
+use Rattle.std.specs.Prelude.{Ok}
 use mathlib.Core.Path.{◌≡◌, refl, sym, ◌∙◌}
 use mathlib.Core.Bool.{Bool, true, false}
 use mathlib.Core.List.Memᴰ
@@ -11,7 +12,6 @@ use lib.ListN.{length}
 use Rattle.word.specs.declared.Symbol.TheVariants.{Terminal, Nonterminal}
 use Rattle.base.specs.Choice.{choose}
 use Rattle.grammar.specs.declared.reading.Sizes.{Sizes}
-use Rattle.grammar.specs.declared.reading.Reading.TheVariants.{Read}
 use Rattle.grammar.specs.Limits.{max_nonterminals}
 use Rattle.grammar.specs.Reading.{reading}
 use Rattle.admission.specs.Admission.{admission}
@@ -151,9 +151,9 @@ module _ (G : Grammar) (scoped : WellScoped G) (s : NumberSet) (is : (A : ℕ) �
         (closure_least n l (reach_number G) (least.least (reach_number G) numbers_closed) numbers_on A) (λ B t. reaches_in A B (number_reaches A B t))
 
 -- the words of a grammar that is admitted, with its first sets
-module _ (k : Lookahead) (words : List ℕ) {firsts : List ℕ} {z : Sizes} (taken : admission k words ≡ Read z)
+module _ (k : Lookahead) (words : List ℕ) {firsts : List ℕ} {z : Sizes} (taken : admission k words ≡ Ok z)
     (found : firsts ≡ listed max_nonterminals (first_number k (grammar_of words))) where
-  read : reading words ≡ Read z
+  read : reading words ≡ Ok z
   read = admitted_read k words taken
 
   scoped : WellScoped (grammar_of words)

@@ -2,6 +2,7 @@ pub mod Words
 pub mod NamedNonterminals
 pub mod LeastByPasses
 pub mod RulePasses
+pub mod RulePlaces
 pub mod ByRules
 pub mod RuleRanges
 pub mod Inner

@@ -1,47 +1,23 @@
 -- The nonterminals that words name: what other kinds of words leave out, and that those of a row that is read have a set.
-use mathlib.Core.Path.{◌≡◌, refl}
+use Rattle.std.specs.Prelude.{Ok}
+use mathlib.Core.Path.{◌≡◌}
 use mathlib.Core.Bool.{true}
-use mathlib.Core.List.{List, [], ◌∷◌}
+use mathlib.Core.List.{List}
 use mathlib.Core.Option.{Option, none, some}
 use Prim.Native.Nat.{ℕ, ◌-◌, ◌≤◌, ◌<◌}
 use native.Mathlib.Omega.{arith}
-use denote.Enum.Declared.{tag_of}
-use types.Run.{OneOf, miss}
 use lib.ListN.{length, get_or}
 use borrow.Author.Tests.{ltb-true}
-use Rattle.word.specs.contracts.Word.{the_type}
 use Rattle.word.specs.declared.Symbol.TheVariants.{Terminal, Nonterminal}
 use Rattle.word.specs.declared.Word.{Word}
 use Rattle.word.specs.declared.Word.TheVariants.{Heading, Rule, Positive, Negative, Symbol, End, Invalid}
 use Rattle.word.specs.Words.{decoded}
 use Rattle.grammar.specs.declared.reading.Sizes.{Sizes}
-use Rattle.grammar.specs.declared.reading.Reading.TheVariants.{Read}
 use Rattle.grammar.specs.Limits.{max_nonterminals}
 use Rattle.grammar.specs.Reading.{in_range, reading}
-use Rattle.grammar.specs.inner.WellRead.{head_of}
 use Rattle.grammar.proofs.EachIndex.{read_place}
 use Rattle.grammar.proofs.WellRead.{well_read}
 use Rattle.families.specs.inner.Naming.{nonterminal_of, Indexed}
-
--- every kind of word but a rule's begin has no head
-pub no_head_of : (w : Word) → OneOf (0 ∷ 2 ∷ 3 ∷ 4 ∷ 5 ∷ 6 ∷ []) (tag_of the_type w) → head_of w ≡ 0
-no_head_of (Rule A) h = absurd (miss (0 ∷ 2 ∷ 3 ∷ 4 ∷ 5 ∷ 6 ∷ []) 1 tt h)
-no_head_of (Heading n t) h = refl
-no_head_of Positive h = refl
-no_head_of Negative h = refl
-no_head_of (Symbol X) h = refl
-no_head_of End h = refl
-no_head_of Invalid h = refl
-
--- every kind of word but a symbol names no nonterminal of a body
-pub no_name : (w : Word) → OneOf (0 ∷ 1 ∷ 2 ∷ 3 ∷ 5 ∷ 6 ∷ []) (tag_of the_type w) → nonterminal_of w ≡ none
-no_name (Symbol X) h = absurd (miss (0 ∷ 1 ∷ 2 ∷ 3 ∷ 5 ∷ 6 ∷ []) 4 tt h)
-no_name (Heading n t) h = refl
-no_name (Rule A) h = refl
-no_name Positive h = refl
-no_name Negative h = refl
-no_name End h = refl
-no_name Invalid h = refl
 
 -- what is named has a set
 abbrev pub IndexedName : Option ℕ → Type 0
@@ -69,11 +45,11 @@ in_range_indexed (Heading n t) z h e = tt
 in_range_indexed Invalid z h e = tt
 
 -- each word of a row that is read, at an index and before one
-pub word_indexed : (words : List ℕ) {z : Sizes} {w : Word} {i : ℕ} → reading words ≡ Read z → i < length words → w ≡ decoded (get_or words i 0)
+pub word_indexed : (words : List ℕ) {z : Sizes} {w : Word} {i : ℕ} → reading words ≡ Ok z → i < length words → w ≡ decoded (get_or words i 0)
     → Indexed w
 word_indexed words {z} {w} {i} e h is =
     rw is (in_range_indexed (decoded (get_or words i 0)) z (well_read words z e).few_nonterminals (read_place words z e i h).ranged)
 
-pub before_indexed : (words : List ℕ) {z : Sizes} {w : Word} {i : ℕ} → reading words ≡ Read z → 0 < i → i ≤ length words
+pub before_indexed : (words : List ℕ) {z : Sizes} {w : Word} {i : ℕ} → reading words ≡ Ok z → 0 < i → i ≤ length words
     → w ≡ decoded (get_or words (i - 1) 0) → Indexed w
 before_indexed words e h k is = word_indexed words e (omega arith) is

@@ -2,15 +2,15 @@
 use mathlib.Core.Path.{◌≡◌, refl, ◌∙◌}
 use mathlib.Core.Bool.{true}
 use mathlib.Core.List.{List}
-use Prim.Native.Nat.{ℕ, ◌+◌, ◌-◌, ◌≤◌, ◌<◌}
+use Prim.Native.Nat.{ℕ, ◌+◌, ◌-◌, ◌<◌}
 use native.Mathlib.Decide.{ℕ_discrete}
 use native.Mathlib.Omega.{arith}
 use lib.ListN.{length, get_or, set, take, drop, length-set}
 use lib.Seq.{get_or-set_same, get_or-set_other}
 use Rattle.grammar.specs.declared.reading.Sizes.{Sizes}
-use Rattle.grammar.specs.Limits.{max_rules, max_words}
+use Rattle.grammar.specs.Limits.{max_rules}
 use Rattle.grammar.proofs.WellRead.{well_read}
-use Rattle.families.specs.inner.Rules.{rule_end, NegativesFrom, PassGiven, PositiveEnds}
+use Rattle.families.specs.inner.Rules.{rule_end, NegativesFrom, PassGiven}
 use Rattle.families.proofs.HeadPasses.{its_words}
 use Rattle.families.proofs.Signs.{negatives_inside}
 
@@ -19,18 +19,12 @@ pub record EndsBefore (words starts : List ℕ) (n : ℕ) (ends : List ℕ) (i :
   pub long : length ends ≡ max_rules
   pub each : (q : ℕ) → q < i → NegativesFrom words (get_or starts q 0 + 1) (rule_end words starts n q) (get_or ends q 0)
 
-pub ends_all : {words starts : List ℕ} {n : ℕ} {ends : List ℕ} {i : ℕ} → EndsBefore words starts n ends i → n ≤ i → PositiveEnds words starts n ends
-ends_all e h q b = e.each q (omega (arith, b))
-
 module _ {words starts : List ℕ} {z : Sizes} {l₀ : List ℕ} (k : PassGiven words starts z l₀) {i end r : ℕ} (h : i < z.rules)
     (e : end ≡ rule_end words starts z.rules i)
     (f : NegativesFrom (take (end - (get_or starts i 0 + 1)) (drop (get_or starts i 0 + 1) words)) 0
     (length (take (end - (get_or starts i 0 + 1)) (drop (get_or starts i 0 + 1) words))) r) where
   here : NegativesFrom words (get_or starts i 0 + 1) end (get_or starts i 0 + 1 + r)
   here = negatives_inside (its_words k true h refl e) f
-
-  pub end_fits : get_or starts i 0 + 1 + r ≤ max_words
-  end_fits = omega (arith, here.high, (its_words k true h refl e).within, (well_read words z k.read).short)
 
   pub ends_next : {l l' : List ℕ} → EndsBefore words starts z.rules l i → l' ≡ set l i (get_or starts i 0 + 1 + r)
       → EndsBefore words starts z.rules l' (i + 1)

@@ -6,9 +6,9 @@ use Prim.Native.Nat.{ℕ, suc, ◌+◌, ◌-◌, ◌≤◌, ◌<◌}
 use native.Mathlib.Decide.{ℕ_discrete}
 use native.Mathlib.Numerals.{add-one}
 use native.Mathlib.Omega.{arith}
-use Rattle.families.specs.inner.Least.{SetFamily, at, Passing, Passes}
+use Rattle.families.specs.inner.Least.{SetFamily, Passing, Passes}
 use Rattle.families.specs.inner.Rules.{turn_of}
-use Rattle.families.proofs.LeastByPasses.{passing_none, passing_on, passing_then}
+use Rattle.families.proofs.LeastByPasses.{passing_on, passing_then}
 
 -- every rule has its turn
 pub turn_below : (forward : Bool) (n i : ℕ) → i < n → turn_of forward n i < n
@@ -29,9 +29,6 @@ module _ (asks : ℕ → SetFamily → Type 0) (n : ℕ) (forward : Bool) where
 
   abbrev pub Turns : List ℕ → List ℕ → Bool → ℕ → Type 0
   Turns l₀ l grown i = Passing All (Some i) l₀ l grown
-
-  pub turns_start : (l : List ℕ) → Turns l l false 0
-  turns_start l = passing_none l (λ j h. absurd (omega arith))
 
   one_more : (i : ℕ) (L : SetFamily) → Some i L × asks (turn_of forward n i) L → Some (suc i) L
   one_more i L s j h = go (ℕ_discrete j i)

@@ -1,4 +1,5 @@
 -- Where the words of each rule of a grammar that has been read stand, and that these rules are the grammar's.
+use Rattle.std.specs.Prelude.{Ok}
 use mathlib.Core.Path.{◌≡◌, refl, sym, ap, ◌∙◌}
 use mathlib.Core.Bool.{Bool, true, false, false≢true}
 use mathlib.Core.List.{List, [], ◌∷◌, ◌++◌, Memᴰ}
@@ -13,7 +14,6 @@ use Rattle.base.specs.Choice.{choose}
 use Rattle.word.specs.Words.{decoded}
 use Rattle.grammar.specs.declared.reading.Sizes.{Sizes}
 use Rattle.grammar.specs.declared.reading.State.{State}
-use Rattle.grammar.specs.declared.reading.Reading.TheVariants.{Read}
 use Rattle.grammar.specs.Limits.{max_rules}
 use Rattle.grammar.specs.Syntax.{Rule}
 use Rattle.grammar.specs.Encoding.{Parsed, rule_of, on_word, parse, grammar_of}
@@ -107,7 +107,7 @@ allowed_inside End s a b = tt
 allowed_inside (Heading n t) s a b = absurd (false≢true a)
 allowed_inside Invalid s a b = absurd (false≢true a)
 
-module _ (words : List ℕ) (z : Sizes) (read : reading words ≡ Read z) where
+module _ (words : List ℕ) (z : Sizes) (read : reading words ≡ Ok z) where
   known : WellRead words z
   known = well_read words z read
 

@@ -1,34 +1,17 @@
 -- The words of a rule's positives, and those of its negatives.
 use mathlib.Core.Path.{◌≡◌, sym, ap, ◌∙◌}
-use mathlib.Core.List.{List, [], ◌∷◌}
+use mathlib.Core.List.{List, []}
 use Prim.Native.Nat.{ℕ, ◌+◌, ◌-◌, ◌≤◌, ◌<◌}
 use native.Mathlib.Decide.{dec_lt}
 use native.Mathlib.Omega.{arith}
-use denote.Enum.Declared.{tag_of}
-use types.Run.{OneOf, miss}
 use lib.ListN.{length, get_or, take, drop, length-drop}
 use lib.Seq.{length-take-le, get_or-take, get_or-drop}
-use Rattle.word.specs.contracts.Word.{the_type}
-use Rattle.word.specs.declared.Word.{Word}
-use Rattle.word.specs.declared.Word.TheVariants.{Negative}
 use Rattle.word.specs.Words.{decoded}
 use Rattle.grammar.specs.Encoding.{on_word, parse}
 use Rattle.grammar.proofs.EachIndex.{read_place}
 use Rattle.families.specs.inner.Rules.{RuleWords, BodyWords, NegativesFrom}
 use Rattle.families.proofs.Words.{parse_here}
 use Rattle.families.proofs.Inner.{bodies_between}
-
--- which words begin a negative
-pub not_negative : (w : Word) → OneOf (0 ∷ 1 ∷ 2 ∷ 4 ∷ 5 ∷ 6 ∷ []) (tag_of the_type w) → w ≡ Negative → ⊥
-not_negative w h e = absurd (miss (0 ∷ 1 ∷ 2 ∷ 4 ∷ 5 ∷ 6 ∷ []) 3 tt (rw e at h))
-
-pub none_till : (words : List ℕ) {from : ℕ} (n : ℕ) → ((i : ℕ) → from ≤ i → i < n → decoded (get_or words i 0) ≡ Negative → ⊥)
-    → (decoded (get_or words n 0) ≡ Negative → ⊥) → (i : ℕ) → from ≤ i → i < n + 1 → decoded (get_or words i 0) ≡ Negative → ⊥
-none_till words n before here i l h e = go (dec_lt i n)
-  where
-    go : Dec (i < n) → ⊥
-    go (yes k) = before i l k e
-    go (no k) = let q : i ≡ n = omega arith in here (rw q at e)
 
 -- of a part of the words
 negatives_among : (words : List ℕ) (from end : ℕ) {r : ℕ} → from ≤ end → end ≤ length words

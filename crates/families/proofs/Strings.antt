@@ -18,13 +18,12 @@ use Rattle.lookahead.specs.declared.Lookahead.{Lookahead}
 use Rattle.lookahead.specs.Lookaheads.{tokens, elements, nothing, element_of, string_of}
 use Rattle.lookahead.specs.inner.Lookaheads.{alphabet, element_after}
 use Rattle.lookahead.specs.Elements.{weight, has}
-use Rattle.lookahead.specs.inner.Elements.{OverTerminals}
 use Rattle.lookahead.specs.inner.Operations.{full}
 use Rattle.lookahead.proofs.Strings.{element_string, string_element, element_below, string_short, string_nothing, string_terminal, string_after, after_below}
 use Rattle.lookahead.proofs.Strings.{single_looked, some_token, nothing_below, over_wider}
 use Rattle.lookahead.proofs.Elements.{bounded}
 use Rattle.lookahead.proofs.Operations.{has_end, has_terminal, has_full}
-use Rattle.lookahead.proofs.Over.{over_full, bound_over}
+use Rattle.lookahead.proofs.Over.{over_full}
 use Rattle.lookahead.proofs.Pairs.{concat_pair}
 use Rattle.lookahead.proofs.Concat.{paired}
 use Rattle.lookahead.proofs.Weights.{total_bound, has_total}
@@ -88,9 +87,6 @@ module _ (k : Lookahead) (p : List ℕ → Bool) where
 
   pub number_element : (l : ℕ) → T (has (set_number k p) l) → l < elements k
   number_element l t = bounded (elements k) (set_number k p) l number_below t
-
-  pub number_over : OverTerminals k (alphabet k) (set_number k p)
-  number_over = bound_over k (set_number k p) number_below
 
 -- the first sets of bodies, in strings and in numbers
 module _ (k : Lookahead) (F : SetFamily) (t : ℕ) (few : t ≤ alphabet k) where

@@ -2,11 +2,10 @@
 use mathlib.Core.Path.{◌≡◌, refl, sym, ◌∙◌}
 use mathlib.Core.Bool.{Bool, true, false}
 use mathlib.Core.List.{List}
-use Prim.Native.Nat.{ℕ, ◌+◌, ◌≤◌, ◌<◌}
-use native.Mathlib.Decide.{ℕ_discrete}
+use Prim.Native.Nat.{ℕ, ◌≤◌, ◌<◌}
 use native.Mathlib.Omega.{arith}
-use lib.ListN.{length, set, length-set, length-map}
-use lib.Seq.{get_or-set_same, get_or-set_other, ext_get_or}
+use lib.ListN.{length, length-map}
+use lib.Seq.{ext_get_or}
 use Rattle.base.specs.Choice.{choose}
 use Rattle.lookahead.specs.Elements.{has}
 use Rattle.lookahead.specs.inner.Operations.{join}
@@ -33,20 +32,6 @@ pub record Walked (B : ℕ) (l₀ l : List ℕ) (i : ℕ) : Type 0 where
   pub before : (A : ℕ) → A < i → at l A ≡ extended B (at l₀ B) (at l₀ A)
   pub from : (A : ℕ) → i ≤ A → at l A ≡ at l₀ A
 
-pub walked_none : (B : ℕ) (l : List ℕ) → Walked B l l 0
-walked_none B l = record { long = refl; before = λ A h. absurd (omega arith); from = λ A h. refl }
-
 module _ {B : ℕ} {l₀ l : List ℕ} {i : ℕ} (w : Walked B l₀ l i) where
-  pub walked_next : {l' : List ℕ} {v : ℕ} → i < length l₀ → v ≡ extended B (at l₀ B) (at l i) → l' ≡ set l i v → Walked B l₀ l' (i + 1)
-  walked_next {l'} {v} h e s = record {
-    long = rw s (length-set l i v) ∙ w.long;
-    before = λ A b. before A (ℕ_discrete A i) b;
-    from = λ A b. rw s (get_or-set_other l i A v 0 (λ u. absurd (omega (arith, u)))) ∙ w.from A (omega (arith, b));
-  }
-    where
-      before : (A : ℕ) → Dec (A ≡ i) → A < i + 1 → at l' A ≡ extended B (at l₀ B) (at l₀ A)
-      before A (yes u) b = rw (s, u) (get_or-set_same l i v 0 (omega (arith, w.long, h)) ∙ e ∙ rw (w.from i (omega arith)))
-      before A (no n) b = rw s (get_or-set_other l i A v 0 n) ∙ w.before A (omega (arith, b, n))
-
   pub walked_all : length l₀ ≤ i → l ≡ through B l₀
   walked_all h = ext_get_or 0 l (through B l₀) (w.long ∙ sym (through_long B l₀)) (λ A b. w.before A (omega (arith, w.long)) ∙ sym (through_at B l₀ A))

@@ -1,6 +1,6 @@
 -- What the words from an index on say, by the word that stands there; and words gone through from their end.
-use mathlib.Core.Path.{◌≡◌, sym, ap, ◌∙◌}
-use mathlib.Core.List.{List, [], ◌∷◌}
+use mathlib.Core.Path.{◌≡◌, refl, sym, ap, ◌∙◌}
+use mathlib.Core.List.{List, [], ◌∷◌, ◌++◌}
 use Prim.Native.Nat.{ℕ, suc, ◌-◌, ◌≤◌, ◌<◌}
 use native.Mathlib.Omega.{arith}
 use lib.ListN.{length, get_or, drop, drop_of_length-le}
@@ -26,20 +26,19 @@ module _ (words : List ℕ) (i : ℕ) where
   pub parse_over : length words ≤ i → parse (drop i words) ≡ parse []
   parse_over h = rw (drop_of_length-le words h)
 
--- those from an index on have been gone through
-module _ {X : Type 0} (f : Word → X → X) (x₀ : X) (words : List ℕ) where
-  pub end_none : {x : X} → x ≡ x₀ → x ≡ fold_from_end f x₀ (drop (length words) words)
+-- words gone through from their end: the last one comes first, and behind the first none is left
+module _ {X : Type 0} (f : Word → X → X) where
+  end_last : (words : List ℕ) (bits : ℕ) (x : X) → fold_from_end f x (words ++ bits ∷ []) ≡ fold_from_end f (f (decoded bits) x) words
   unfolding fold_from_end
-  end_none e = rw (drop_of_length-le words {i = length words} (omega arith)) e
+  end_last [] bits x = refl
+  end_last (v ∷ words) bits x = ap (f (decoded v)) (end_last words bits x)
 
-  pub end_one : {x y : X} {i : ℕ} {w : Word} → x ≡ fold_from_end f x₀ (drop i words) → 0 < i → i ≤ length words → w ≡ decoded (get_or words (i - 1) 0)
-      → y ≡ f w x → y ≡ fold_from_end f x₀ (drop (i - 1) words)
+  pub end_turn : (words left : List ℕ) (bits : ℕ) {w : Word} {x y z : X} → words ≡ left ++ bits ∷ [] → w ≡ decoded bits → y ≡ f w x
+      → fold_from_end f x words ≡ z → fold_from_end f y left ≡ z
+  end_turn words left bits {x = x} e d o h =
+      rw (o, d) (sym (end_last left bits x)) ∙ sym (ap (fold_from_end f x) e) ∙ h
+
+  pub end_done : (words : List ℕ) {x z : X} → length words ≡ 0 → fold_from_end f x words ≡ z → x ≡ z
   unfolding fold_from_end
-  end_one {i = i} {w} r h b e o =
-      let here : suc (i - 1) ≡ i = omega arith in
-      let front : drop (i - 1) words ≡ get_or words (i - 1) 0 ∷ drop i words =
-      drop-cons words (i - 1) 0 (omega arith) ∙ ap (λ (n : ℕ). get_or words (i - 1) 0 ∷ drop n words) here in
-      o ∙ ap (f w) r ∙ ap (λ v. f v (fold_from_end f x₀ (drop i words))) e ∙ sym (ap (fold_from_end f x₀) front)
-
-  pub end_all : {x : X} {i : ℕ} → x ≡ fold_from_end f x₀ (drop i words) → i ≤ 0 → x ≡ fold_from_end f x₀ words
-  end_all {i = i} r h = let first : i ≡ 0 = omega arith in rw first at r
+  end_done [] e h = h
+  end_done (v ∷ words) e h = absurd (omega arith)

@@ -1,24 +1,21 @@
 -- The faults of an encoded grammar that are found before its table is made, in the papers' order, and what is found by them.
-use Rattle.std.specs.Prelude.{List, [], ◌∷◌, ℕ}
+use Rattle.std.specs.Prelude.{Err, Ok, Result, List, [], ◌∷◌, ℕ}
+use Rattle.grammar.specs.declared.reading.Sizes.{Sizes}
 use Rattle.std.proofs.Math.Option.{Option, none, some}
 use Rattle.answer.specs.declared.Error.{Error}
 use Rattle.answer.specs.declared.Error.TheVariants.{LeftRecursive, Unproductive}
 use Rattle.answer.specs.Faults.{first_fault}
 use Rattle.grammar.specs.Encoding.{grammar_of}
-use Rattle.grammar.specs.declared.reading.Reading.{Reading}
-use Rattle.grammar.specs.declared.reading.Reading.TheVariants.{Read, Faulty}
 use Rattle.lookahead.specs.declared.Lookahead.{Lookahead}
 use Rattle.lookahead.specs.Lookaheads.{tokens}
 use Rattle.admission.specs.Admission.{admission}
 use Rattle.semantics.specs.LeftRecursion.{lowest_left_recursive}
 use Rattle.semantics.specs.Productive.{lowest_unproductive}
-use Rattle.families.specs.declared.Finding.{Finding}
-use Rattle.families.specs.declared.Finding.TheVariants.{Passed, Refused}
 
 -- 3 to 7 and 18
-abbrev pub reading_fault : Reading → Option Error
-reading_fault (Read z) = none
-reading_fault (Faulty e) = some e
+abbrev pub reading_fault : Result Sizes Error → Option Error
+reading_fault (Ok z) = none
+reading_fault (Err e) = some e
 
 -- 8: the lowest nonterminal that left-reaches itself
 abbrev pub left_fault : Option ℕ → Option Error
@@ -38,7 +35,7 @@ sets_faults k words =
 unfoldable pub sets_fault : Lookahead → List ℕ → Option Error
 sets_fault k words = first_fault (sets_faults k words)
 
-abbrev pub finding_of : Option Error → Reading → Finding
-finding_of (some e) o = Refused e
-finding_of none (Read z) = Passed z
-finding_of none (Faulty e) = Refused e
+abbrev pub finding_of : Option Error → Result Sizes Error → Result Sizes Error
+finding_of (some e) o = Err e
+finding_of none (Ok z) = Ok z
+finding_of none (Err e) = Err e

@@ -2,6 +2,9 @@
 // proofs/, and the types of what is computed of them. specs/contracts/Analysis.antt tells what is found of a grammar.
 #![tactic(auto)]
 
+ghost use Rattle.std.specs.Prelude.{◌≡◌};
+ghost use Rattle.families.specs.inner.Analysis.{refused_by};
+
 use answer::Error;
 use grammar::limits::{NONTERMINALS, RULES};
 use grammar::reading::Sizes;
@@ -37,28 +40,31 @@ pub enum Flaw {
     Unproductive,
 }
 
-// The lowest nonterminal that has it.
-#[derive(Clone, Copy)]
-pub enum Lowest {
-    Absent,
-    At(u8),
-}
-
-#[derive(Clone, Copy)]
-pub enum Finding {
-    Passed(Sizes),
-    Refused(Error),
-}
-
 // What is found of an encoded grammar: its sizes, or why it is refused; where its rules begin; its sets; and what the positives of each
 // rule can all begin with. Zeros and empty sets stand where it is refused.
 #[derive(Drop)]
 pub struct Families {
-    pub finding: Finding,
+    pub finding: Result<Sizes, Error>,
     pub starts: [usize; RULES],
     pub firsts: [u64; SETS],
     pub meets: [u64; RULES],
     pub follows: [u64; SETS],
     // what each nonterminal left-reaches, a set of nonterminals
     pub reaches: [u32; SETS],
+}
+
+impl Families {
+    // Of a grammar that is refused: zeros and empty sets.
+    pub fn refused(error: Error) -> Families
+        ensures { result ≡ refused_by error }
+    {
+        Families {
+            finding: Err(error),
+            starts: [0; RULES],
+            firsts: [0; SETS],
+            meets: [0; RULES],
+            follows: [0; SETS],
+            reaches: [0; SETS],
+        }
+    }
 }

@@ -14,6 +14,7 @@ pub struct Nonterminals {
 }
 
 impl Nonterminals {
+    #[tactic(auto, using(lookahead::proofs::Operations::is_empty_lem))]
     pub fn empty() -> Nonterminals
         ensures { Empty result.bits }
     {
@@ -21,6 +22,7 @@ impl Nonterminals {
     }
 
     // A nonterminal alone; the empty set where the number is no nonterminal's.
+    #[tactic(auto, using(crate::proofs::NonterminalSets::alone_some, crate::proofs::NonterminalSets::alone_none))]
     pub fn alone(number: u32) -> Nonterminals
         ensures { Alone number result.bits }
     {
@@ -33,17 +35,15 @@ impl Nonterminals {
         }
     }
 
+    #[tactic(auto, unfolding(lookahead::specs::Elements::has))]
     pub fn contains(self, number: u32) -> bool
         ensures { result ≡ has self.bits number }
     {
-        if number < NONTERMINALS {
-            self.bits >> number & 1 == 1
-        } else {
-            false
-        }
+        number < NONTERMINALS && self.bits >> number & 1 == 1
     }
 
     // The nonterminals of either set.
+    #[tactic(auto, using(lookahead::proofs::Operations::is_join), unfolding(lookahead::specs::inner::Operations::join))]
     pub fn join(self, other: Nonterminals) -> Nonterminals
         ensures { Joined self.bits other.bits result.bits }
     {
@@ -57,9 +57,5 @@ impl Nonterminals {
 pub fn at_most(nonterminals: u32) -> u32
     ensures { result ≡ min nonterminals max_nonterminals }
 {
-    if nonterminals < NONTERMINALS {
-        nonterminals
-    } else {
-        NONTERMINALS
-    }
+    nonterminals.min(NONTERMINALS)
 }

@@ -1,4 +1,5 @@
 -- The words of a row of bytes are the fours of bytes in order.
+use Rattle.std.specs.Prelude.{None, Some}
 use mathlib.Core.Path.{◌≡◌, refl, sym, ◌∙◌}
 use mathlib.Core.List.{List, [], ◌∷◌}
 use Prim.Native.Nat.{ℕ, zero, suc, ◌+◌, ◌*◌, ◌/◌, ◌%◌, ◌≤◌, ◌<◌}
@@ -8,7 +9,6 @@ use lib.ListN.{length, get_or, take, set}
 use lib.Seq.{sets, take-suc, take_all, length-take-le}
 use borrow.Author.Tests.{lt-leb, le-leb, eq-eqb}
 use Rattle.grammar.specs.Limits.{max_words}
-use Rattle.file_words.specs.declared.Loaded.TheVariants.{Words, NotWords}
 use Rattle.file_words.specs.Words.{bytes_of_word, words_of, are_words}
 use Rattle.file_words.specs.inner.Words.{four_at, Loading}
 use Rattle.text.proofs.Writing.{sets_append}
@@ -44,13 +44,13 @@ one_more bytes before i {words} {v} h w e =
     let x : v ≡ get_or (words_of bytes) i 0 = e ∙ sym (word_at bytes i (omega arith)) in
     rw (add-one i, take-suc (words_of bytes) i 0 l, sets_append (take i (words_of bytes)) (get_or (words_of bytes) i 0 ∷ []) before 0, n, w, x)
 
-pub too_long : (bytes before : List ℕ) → bytes_of_word * max_words < length bytes → Loading bytes before NotWords before
+pub too_long : (bytes before : List ℕ) → bytes_of_word * max_words < length bytes → Loading bytes before None before
 unfolding are_words
 too_long bytes before h = let t = lt-leb (length bytes) (bytes_of_word * max_words) h in record { told = rw t; words = rw t }
 
 module _ (bytes before : List ℕ) (h : length bytes ≤ bytes_of_word * max_words) where
   pub all_loaded : length bytes % bytes_of_word ≡ 0 → (i : ℕ) {words : List ℕ} → i ≤ length bytes / bytes_of_word → length bytes / bytes_of_word ≤ i →
-      words ≡ sets before 0 (take i (words_of bytes)) → Loading bytes before (Words i) words
+      words ≡ sets before 0 (take i (words_of bytes)) → Loading bytes before (Some i) words
   unfolding are_words
   all_loaded e i {words} a b w =
       let t = le-leb (length bytes) (bytes_of_word * max_words) h in

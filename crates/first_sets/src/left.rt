@@ -1,6 +1,5 @@
 // Left recursion: what is at the left of each nonterminal's rules, by one pass over them, and all that this left-reaches.
-ghost use Rattle.std.specs.Prelude.{◌≡◌, length};
-ghost use Rattle.grammar.specs.declared.reading.Reading.TheVariants.{Read};
+ghost use Rattle.std.specs.Prelude.{Ok, ◌≡◌, length};
 ghost use Rattle.grammar.specs.Encoding.{parse, grammar_of};
 ghost use Rattle.grammar.specs.Limits.{max_nonterminals};
 ghost use Rattle.grammar.specs.Reading.{reading};
@@ -23,6 +22,7 @@ use rule_passes::rules::{end_of, head_of};
 use word::decode;
 
 // What is at the left of the rules of each nonterminal.
+#[tactic(auto, using(families::proofs::RulePlaces::rule_places))]
 fn at_left(
     words: &[u32],
     starts: &[usize; RULES],
@@ -30,20 +30,18 @@ fn at_left(
     firsts: &[u64; SETS],
     lookahead: Lookahead,
 ) -> [u32; SETS]
-    requires { (reading words.now ≡ Read sizes) × (starts.now ≡ rule_starts words.now) }
+    requires { (reading words.now ≡ Ok sizes) × (starts.now ≡ rule_starts words.now) }
     ensures { (length result ≡ max_nonterminals)
         × LeastNumbers (LeftClosed (empty_in lookahead (family firsts.now)) (parse words.now).rules) result }
 {
     let mut sets = [0u32; SETS];
-    let mut rule = 0;
-    while rule < sizes.rules {
+    for rule in 0..sizes.rules {
         let start = starts[rule];
         let end = end_of(words, starts, sizes, rule);
         let inside = start + 1;
         let left = rule_left(&words[inside..end], firsts, lookahead);
         let head = head_of(decode(words[start]));
         add_nonterminals(&mut sets, head, left);
-        rule = rule + 1;
     }
     sets
 }
@@ -56,7 +54,7 @@ pub(crate) fn reached(
     firsts: &[u64; SETS],
     lookahead: Lookahead,
 ) -> [u32; SETS]
-    requires { (admission lookahead words.now ≡ Read sizes) × (starts.now ≡ rule_starts words.now)
+    requires { (admission lookahead words.now ≡ Ok sizes) × (starts.now ≡ rule_starts words.now)
         × (firsts.now ≡ listed max_nonterminals (first_number lookahead (grammar_of words.now))) }
     ensures { result ≡ listed max_nonterminals (reach_number (grammar_of words.now)) }
 {

@@ -8,7 +8,7 @@ ghost use Rattle.families.specs.inner.Flaws.{flaw_in, lowest_of, finding_in};
 
 use answer::Error;
 use families::nonterminals::{Nonterminals, at_most};
-use families::{Finding, Flaw, Lowest, SETS};
+use families::{Flaw, SETS};
 use grammar::reading::Sizes;
 use lookahead_sets::LookaheadSet;
 
@@ -34,32 +34,33 @@ fn has_flaw(flaw: Flaw, firsts: &[u64; SETS], reaches: &[u32; SETS], nonterminal
 }
 
 // The lowest nonterminal with a flaw.
-fn lowest_with(flaw: Flaw, firsts: &[u64; SETS], reaches: &[u32; SETS], nonterminals: u32) -> Lowest
+fn lowest_with(
+    flaw: Flaw,
+    firsts: &[u64; SETS],
+    reaches: &[u32; SETS],
+    nonterminals: u32,
+) -> Option<u8>
     requires { nonterminals ≤ max_nonterminals }
     ensures { result ≡ lowest_of (lowest nonterminals (flaw_in flaw firsts.now reaches.now)) }
 {
-    let mut nonterminal = 0;
-    while nonterminal < nonterminals {
+    for nonterminal in 0..nonterminals {
         if has_flaw(flaw, firsts, reaches, nonterminal) {
-            return Lowest::At(nonterminal as u8);
+            return Some(nonterminal as u8);
         }
-        nonterminal = nonterminal + 1;
     }
-    Lowest::Absent
+    None
 }
 
 // Left recursion comes first.
-pub fn finding_of(sizes: Sizes, firsts: &[u64; SETS], reaches: &[u32; SETS]) -> Finding
+pub fn finding_of(sizes: Sizes, firsts: &[u64; SETS], reaches: &[u32; SETS]) -> Result<Sizes, Error>
     ensures { result ≡ finding_in sizes firsts.now reaches.now }
 {
     let nonterminals = at_most(sizes.nonterminals);
     let recursive = lowest_with(Flaw::LeftRecursive, firsts, reaches, nonterminals);
     let unproductive = lowest_with(Flaw::Unproductive, firsts, reaches, nonterminals);
-    match recursive {
-        Lowest::At(nonterminal) => Finding::Refused(Error::LeftRecursive(nonterminal)),
-        Lowest::Absent => match unproductive {
-            Lowest::At(nonterminal) => Finding::Refused(Error::Unproductive(nonterminal)),
-            Lowest::Absent => Finding::Passed(sizes),
-        },
+    match (recursive, unproductive) {
+        (Some(nonterminal), _) => Err(Error::LeftRecursive(nonterminal)),
+        (None, Some(nonterminal)) => Err(Error::Unproductive(nonterminal)),
+        (None, None) => Ok(sizes),
     }
 }

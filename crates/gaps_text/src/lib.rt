@@ -3,16 +3,19 @@
 
 ghost use Rattle.std.specs.Prelude.{◌≡◌, ◌≤◌};
 ghost use Rattle.grammar.specs.Limits.{max_nonterminals, max_terminals, max_rules};
+ghost use Rattle.text.specs.inner.Outputs.{Puts};
 ghost use Rattle.text.specs.Writing.{Put, up_to};
-ghost use Rattle.gaps_text_promises.specs.inner.Steps.{row_text, overrun_line, overruns_text, claimant_at, overruns_by, overruns_in, within_limits, GapsPutBy};
+ghost use Rattle.gaps_text_promises.specs.inner.Steps.{row_text, overrun_line, overruns_text, lines_text, claimant_at, overruns_by, overruns_in};
+ghost use Rattle.gaps_text_promises.specs.inner.Steps.{within_limits, WithinLimits, GapsPutBy};
 
+use answer::Error;
 use claimants_text::put_entry;
-use families::{Finding, SETS};
+use families::SETS;
 use grammar::limits::{COLUMNS, NONTERMINALS, RULES, TERMINALS};
 use grammar::reading::Sizes;
 use lookahead_sets::LookaheadSet;
 use refusal_text::put_refusal;
-use text::put::{put_bytes, put_number};
+use text::Output;
 
 // How many bytes the lines take at most, and all of a sheet.
 const RULE_ROOM: usize = 4;
@@ -26,95 +29,86 @@ pub const ROOM: usize = (NONTERMINALS as usize) * (COLUMNS * ENTRY_ROOM)
     + COLUMNS * (RULES * RULE_ROOM)
     + (NONTERMINALS as usize) * OVERRUN_ROOM;
 
+#[tactic(auto, unfolding(gaps_text_promises::specs::inner::Steps::row_text))]
 fn put_row(
-    out: &mut [u8],
-    at: usize,
+    output: &mut Output<'_>,
     heads: &[u8; RULES],
     sets: &[u64; RULES],
     sizes: Sizes,
     nonterminal: u8,
-) -> usize
-    requires { (sizes.rules ≤ max_rules) × (sizes.terminals ≤ max_terminals) }
-    ensures { Put out.old at
-        (row_text sizes (claimant_at heads.now sets.now sizes.terminals) nonterminal) out.new result }
+)
+    requires rules { sizes.rules ≤ max_rules }
+    requires terminals { sizes.terminals ≤ max_terminals }
+    ensures { Puts (row_text sizes (claimant_at heads.now sets.now sizes.terminals) nonterminal) output.old output.new }
 {
-    let columns = sizes.terminals + 1;
-    let mut next = at;
-    let mut column = 0;
-    while column < columns {
-        next = put_entry(out, next, heads, sets, sizes, nonterminal, column);
-        column = column + 1;
+    for column in 0..sizes.terminals + 1 {
+        put_entry(output, heads, sets, sizes, nonterminal, column);
     }
-    next
 }
 
-fn put_rows<'a>(
-    out: &mut [u8],
-    at: usize,
-    heads: &'a [u8; RULES],
-    sets: &'a [u64; RULES],
-    sizes: Sizes,
-) -> usize
-    requires { (sizes.nonterminals ≤ max_nonterminals) × (sizes.rules ≤ max_rules) × (sizes.terminals ≤ max_terminals) }
-    ensures { Put out.old at
-        (up_to sizes.nonterminals (row_text sizes (claimant_at heads.now sets.now sizes.terminals))) out.new result }
+fn put_rows(output: &mut Output<'_>, heads: &[u8; RULES], sets: &[u64; RULES], sizes: Sizes)
+    requires { WithinLimits sizes }
+    ensures { Puts (up_to sizes.nonterminals (row_text sizes (claimant_at heads.now sets.now sizes.terminals))) output.old output.new }
 {
-    let nonterminals = sizes.nonterminals;
-    let mut next = at;
-    let mut nonterminal = 0;
-    while nonterminal < nonterminals {
-        next = put_row(out, next, heads, sets, sizes, nonterminal as u8);
-        nonterminal = nonterminal + 1;
+    for nonterminal in 0..sizes.nonterminals {
+        put_row(output, heads, sets, sizes, nonterminal as u8);
     }
-    next
 }
 
 // The line of a nonterminal, unless the set that is reported of it is empty: it does not overrun.
 #[tactic(auto, unfolding(gaps_text_promises::specs::inner::Steps::overrun_line))]
-fn put_overrun(out: &mut [u8], at: usize, told: LookaheadSet, nonterminal: u32) -> usize
-    ensures { Put out.old at (overrun_line (overruns_by told.bits) nonterminal) out.new result }
+fn put_overrun(output: &mut Output<'_>, told: LookaheadSet, nonterminal: u32)
+    ensures { Puts (overrun_line (overruns_by told.bits) nonterminal) output.old output.new }
 {
-    let ends = told.is_empty();
-    if ends {
-        return at;
+    if told.is_empty() {
+        return;
     }
-    let at = put_number(out, at, nonterminal as usize);
-    put_bytes(out, at, b"\n")
+    output.put_number(nonterminal as usize);
+    output.put_bytes(b"\n");
 }
 
-fn put_overruns(out: &mut [u8], at: usize, overruns: &[u64; SETS], nonterminals: u32) -> usize
+fn put_overruns(output: &mut Output<'_>, overruns: &[u64; SETS], nonterminals: u32)
     requires { nonterminals ≤ max_nonterminals }
-    ensures { Put out.old at (overruns_text nonterminals (overruns_in overruns.now)) out.new result }
+    ensures { Puts (overruns_text nonterminals (overruns_in overruns.now)) output.old output.new }
 {
-    let mut next = at;
-    let mut nonterminal = 0;
-    while nonterminal < nonterminals {
+    for nonterminal in 0..nonterminals {
         let told = LookaheadSet {
             bits: overruns[nonterminal as usize],
         };
-        next = put_overrun(out, next, told, nonterminal);
-        nonterminal = nonterminal + 1;
+        put_overrun(output, told, nonterminal);
     }
-    next
+}
+
+// The entries, then the nonterminals that overrun.
+fn put_lines(
+    out: &mut [u8],
+    heads: &[u8; RULES],
+    sets: &[u64; RULES],
+    overruns: &[u64; SETS],
+    sizes: Sizes,
+) -> usize
+    requires { WithinLimits sizes }
+    ensures { Put out.old 0
+        (lines_text sizes (claimant_at heads.now sets.now sizes.terminals) (overruns_in overruns.now)) out.new result }
+{
+    let mut output = Output { bytes: out, at: 0 };
+    put_rows(&mut output, heads, sets, sizes);
+    put_overruns(&mut output, overruns, sizes.nonterminals);
+    output.at
 }
 
 // No more of each than a grammar may have.
+#[tactic(auto, unfolding(gaps_text_promises::specs::inner::Steps::within_limits))]
 fn within_limits(sizes: Sizes) -> bool
     ensures { result ≡ within_limits sizes }
 {
-    if NONTERMINALS < sizes.nonterminals {
-        return false;
-    }
-    if TERMINALS < sizes.terminals {
-        return false;
-    }
-    sizes.rules <= RULES
+    sizes.nonterminals <= NONTERMINALS && sizes.terminals <= TERMINALS && sizes.rules <= RULES
 }
 
 // The gaps and overlaps of a grammar, and its nonterminals that overrun, by what is found of it and of its rules; or why there are none to tell.
 pub fn put_gaps<'a>(
     out: &mut [u8],
-    finding: Finding,
+    finding: Result<Sizes, Error>,
     heads: &'a [u8; RULES],
     sets: &'a [u64; RULES],
     overruns: &'a [u64; SETS],
@@ -122,13 +116,12 @@ pub fn put_gaps<'a>(
     ensures { GapsPutBy finding heads.now sets.now overruns.now out.old out.new result }
 {
     match finding {
-        Finding::Refused(error) => put_refusal(out, 0, error),
-        Finding::Passed(sizes) => {
+        Err(error) => put_refusal(out, 0, error),
+        Ok(sizes) => {
             if !within_limits(sizes) {
                 return 0;
             }
-            let at = put_rows(out, 0, heads, sets, sizes);
-            put_overruns(out, at, overruns, sizes.nonterminals)
+            put_lines(out, heads, sets, overruns, sizes)
         }
     }
 }

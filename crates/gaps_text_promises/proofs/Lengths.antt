@@ -1,4 +1,6 @@
 -- How long the sheet of gaps and overlaps can be: each rule stands in one row, that of its head.
+use Rattle.std.specs.Prelude.{Err, Ok, Result}
+use Rattle.answer.specs.declared.Error.{Error}
 use mathlib.Core.Path.{◌≡◌, refl}
 use mathlib.Core.Bool.{Bool, true, false, not}
 use mathlib.Core.List.{List, [], ◌++◌}
@@ -21,8 +23,6 @@ use Rattle.grammar.specs.Syntax.{Rule, Grammar}
 use Rattle.grammar.proofs.WellRead.{well_read}
 use Rattle.lookahead.specs.declared.Lookahead.TheVariants.{One}
 use Rattle.semantics.specs.Claims.{claims, overruns}
-use Rattle.families.specs.declared.Finding.{Finding}
-use Rattle.families.specs.declared.Finding.TheVariants.{Passed, Refused}
 use Rattle.families.specs.Analysis.{sets_fault, finding_of}
 use Rattle.families.proofs.Findings.{told_passed}
 use Rattle.columns.specs.Columns.{column_string}
@@ -140,10 +140,10 @@ pub gaps_most : (words : List ℕ) → length (gaps_text words) ≤ gaps_room
 unfolding gaps_text
 gaps_most words = go (finding_of (sets_fault One words) (reading words)) refl
   where
-    go : (f : Finding) → finding_of (sets_fault One words) (reading words) ≡ f
+    go : (f : Result Sizes Error) → finding_of (sets_fault One words) (reading words) ≡ f
         → length (found_text f (grammar_of words)) ≤ gaps_room
-    go (Refused e) q = omega (arith, refusal_most e)
-    go (Passed z) q =
+    go (Err e) q = omega (arith, refusal_most e)
+    go (Ok z) q =
         let r = well_read words z (told_passed (sets_fault One words) (reading words) q).1 in
         let G = grammar_of words in
         rw (← lines_are G z r.nonterminals r.terminals r.rules)

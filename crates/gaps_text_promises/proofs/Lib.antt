@@ -1,5 +1,4 @@
 pub mod Entries
-pub mod Lines
 pub mod Overlaps
 pub mod Same
 pub mod Lengths

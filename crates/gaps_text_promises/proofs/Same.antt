@@ -1,4 +1,5 @@
 -- From what is found of each rule and of each nonterminal to the text of the grammar.
+use Rattle.std.specs.Prelude.{Err, Ok, Result}
 use mathlib.Core.Path.{◌≡◌, refl, sym, ap, ap₂, ◌∙◌}
 use mathlib.Core.Bool.{Bool, true, false}
 use mathlib.Core.List.{List, ◌++◌}
@@ -12,7 +13,6 @@ use Rattle.base.proofs.Quantified.{count_cong}
 use Rattle.grammar.specs.Encoding.{grammar_of}
 use Rattle.grammar.specs.Limits.{max_nonterminals, max_terminals, max_rules}
 use Rattle.grammar.specs.declared.reading.Sizes.{Sizes}
-use Rattle.grammar.specs.declared.reading.Reading.TheVariants.{Read}
 use Rattle.grammar.specs.Reading.{reading}
 use Rattle.grammar.specs.Syntax.{Rule, Grammar}
 use Rattle.grammar.specs.inner.WellRead.{WellRead}
@@ -21,8 +21,6 @@ use Rattle.lookahead.specs.declared.Lookahead.TheVariants.{One}
 use Rattle.lookahead.specs.inner.Lookaheads.{alphabet}
 use Rattle.lookahead.specs.inner.Operations.{is_empty, terminal}
 use Rattle.semantics.specs.Claims.{overruns}
-use Rattle.families.specs.declared.Finding.{Finding}
-use Rattle.families.specs.declared.Finding.TheVariants.{Passed, Refused}
 use Rattle.families.specs.Analysis.{sets_fault}
 use Rattle.families.specs.inner.Analysis.{by_rule_if}
 use Rattle.families.specs.inner.RuleLists.{by_rule}
@@ -77,8 +75,8 @@ overrun_same true = refl
 overrun_same false = refl
 
 module _ (words : List ℕ) {r : Claims} (e : r ≡ claims_of One words) where
-  module _ {z : Sizes} (q : r.finding ≡ Passed z) where
-    told : (sets_fault One words ≡ none) × (reading words ≡ Read z)
+  module _ {z : Sizes} (q : r.finding ≡ Ok z) where
+    told : (sets_fault One words ≡ none) × (reading words ≡ Ok z)
     unfolding claims_of
     told = told_passed (sets_fault One words) (reading words) (sym (ap (λ y. y.finding) e) ∙ q)
 
@@ -115,7 +113,7 @@ module _ (words : List ℕ) {r : Claims} (e : r ≡ claims_of One words) where
         let u = lines_are G z read.nonterminals read.terminals read.rules in
         record { put = rw (told.0, told.1) (rw (t ∙ u) at p); tells = lines_tell words }
 
-  refusal_put : {x : Error} → r.finding ≡ Refused x → {l m : List ℕ} {n : ℕ} → Put l 0 (refusal_text x) m n → GapsPut words l m n
+  refusal_put : {x : Error} → r.finding ≡ Err x → {l m : List ℕ} {n : ℕ} → Put l 0 (refusal_text x) m n → GapsPut words l m n
   unfolding gaps_text claims_of sets_fault
   refusal_put {x} q p =
       let f : sets_fault One words ≡ some x = told_refused (sets_fault One words) (reading words) (λ y f. rw f) (sym (ap (λ y. y.finding) e) ∙ q) in
@@ -124,6 +122,6 @@ module _ (words : List ℕ) {r : Claims} (e : r ≡ claims_of One words) where
   pub gaps_put : {l m : List ℕ} {n : ℕ} → GapsPutBy r.finding r.heads r.sets r.overruns l m n → GapsPut words l m n
   gaps_put {l} {m} {n} p = go r.finding refl p.put
     where
-      go : (f : Finding) → r.finding ≡ f → Put l 0 (gaps_by f r.heads r.sets r.overruns) m n → GapsPut words l m n
-      go (Passed z) q d = lines_put q (rw (sizes_within q) at d)
-      go (Refused x) q d = refusal_put q d
+      go : (f : Result Sizes Error) → r.finding ≡ f → Put l 0 (gaps_by f r.heads r.sets r.overruns) m n → GapsPut words l m n
+      go (Ok z) q d = lines_put q (rw (sizes_within q) at d)
+      go (Err x) q d = refusal_put q d

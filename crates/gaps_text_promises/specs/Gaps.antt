@@ -1,6 +1,8 @@
 -- The sheet of gaps and overlaps (document 02, P3): a line for each entry that no rule claims and for each that two or more claim, and
 -- then one for each nonterminal that overruns.
-use Rattle.std.specs.Prelude.{◌≡◌, Bool, false, not, ◌↔◌, ℕ, ◌≤◌, ◌<◌, T, eqb, length}
+use Rattle.std.specs.Prelude.{Err, Ok, Result, ◌≡◌, Bool, false, not, ◌↔◌, ℕ, ◌≤◌, ◌<◌, T, eqb, length}
+use Rattle.answer.specs.declared.Error.{Error}
+use Rattle.grammar.specs.declared.reading.Sizes.{Sizes}
 use mathlib.Core.List.{List, [], ◌∷◌, ◌++◌, flat_map, Memᴰ}
 use Rattle.std.proofs.Math.Option.{Option, none, some}
 use Rattle.std.proofs.Math.ListN.{get_elem?}
@@ -12,8 +14,6 @@ use Rattle.base.specs.FiniteSets.{Distinct, keep, numbers_below}
 use Rattle.semantics.specs.Claims.{claims, overruns, column}
 use Rattle.semantics.specs.Families.{Claims, Overrun}
 use Rattle.semantics.specs.FirstFollow.{Entry, entries, First, Follow}
-use Rattle.families.specs.declared.Finding.{Finding}
-use Rattle.families.specs.declared.Finding.TheVariants.{Passed, Refused}
 use Rattle.families.specs.Analysis.{sets_fault, finding_of}
 use Rattle.table_promises.specs.Analysis.{fault}
 use Rattle.text.specs.Ascii.{ascii}
@@ -59,9 +59,9 @@ listed_overruns G = keep (overruns G 1) (numbers_below G.nonterminals)
 unfoldable pub gaps_lines : Grammar → List ℕ
 gaps_lines G = flat_map (gap_text G) (listed_entries G) ++ flat_map overrun_text (listed_overruns G)
 
-abbrev pub found_text : Finding → Grammar → List ℕ
-found_text (Passed z) G = gaps_lines G
-found_text (Refused e) G = refusal_text e
+abbrev pub found_text : Result Sizes Error → Grammar → List ℕ
+found_text (Ok z) G = gaps_lines G
+found_text (Err e) G = refusal_text e
 
 -- what is printed of an encoded grammar; only the errors 3 to 8 and 13 are refusals
 unfoldable pub gaps_text : List ℕ → List ℕ

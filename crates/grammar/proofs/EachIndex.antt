@@ -1,4 +1,5 @@
 -- What stands at each index of a row that is read: a word whose number is in range, and behind it what may stand there.
+use Rattle.std.specs.Prelude.{Err, Ok}
 use mathlib.Core.Path.{◌≡◌, refl, sym, ◌∙◌}
 use mathlib.Core.Bool.{true, ◌&&◌}
 use mathlib.Core.List.{List, [], ◌∷◌}
@@ -13,7 +14,6 @@ use Rattle.word.specs.Words.{decoded}
 use Rattle.grammar.specs.declared.reading.State.{State}
 use Rattle.grammar.specs.declared.reading.Sizes.{Sizes}
 use Rattle.grammar.specs.declared.reading.Progress.{Progress}
-use Rattle.grammar.specs.declared.reading.Reading.TheVariants.{Read, Faulty}
 use Rattle.grammar.specs.Limits.{max_words, max_nonterminals, max_terminals}
 use Rattle.grammar.specs.Encoding.{Parsed, on_word, parse, declared_by, grammar_of}
 use Rattle.grammar.specs.Reading.{in_range, state_after, fresh, stepped, scan, is_within, headed, opened, reading}
@@ -44,7 +44,7 @@ behind_after (Symbol X) s p h = tt
 behind_after (Heading n t) s p h = tt
 behind_after Invalid s p h = tt
 
-places : (p : Progress) (at : ℕ) (ws : List ℕ) (z : Sizes) → scan p at ws ≡ Read z
+places : (p : Progress) (at : ℕ) (ws : List ℕ) (z : Sizes) → scan p at ws ≡ Ok z
     → (i : ℕ) → i < length ws → Place z (decoded (get_or ws i 0)) (parse (drop (suc i) ws))
 unfolding scan
 places p at [] z e i h = absurd (omega arith)
@@ -74,9 +74,9 @@ heading_place Invalid z p h = absurd (omega arith)
 -- the heading, and the reading of the words behind it
 pub record Opened (w : ℕ) (ws : List ℕ) (z : Sizes) : Type 0 where
   pub some : 0 < (declared_by (decoded w)).nonterminals
-  pub rest : scan (fresh (declared_by (decoded w))) 1 ws ≡ Read z
+  pub rest : scan (fresh (declared_by (decoded w))) 1 ws ≡ Ok z
 
-pub read_opened : (w : ℕ) (ws : List ℕ) (z : Sizes) → reading (w ∷ ws) ≡ Read z → Opened w ws z
+pub read_opened : (w : ℕ) (ws : List ℕ) (z : Sizes) → reading (w ∷ ws) ≡ Ok z → Opened w ws z
 unfolding reading opened headed
 read_opened w ws z e =
     let s = refused (ltb max_words (length (w ∷ ws))) (opened (w ∷ ws)) z e in
@@ -85,12 +85,12 @@ read_opened w ws z e =
     let b = both (is_within d.nonterminals max_nonterminals) (is_within d.terminals max_terminals) c.0 in
     record { some = (within_limits d.nonterminals max_nonterminals b.0).some; rest = c.1 }
 
-pub read_none : (z : Sizes) → reading [] ≡ Read z → ⊥
+pub read_none : (z : Sizes) → reading [] ≡ Ok z → ⊥
 unfolding reading opened
-read_none z e = faulty HeadingFault z (refused (ltb max_words 0) (Faulty HeadingFault) z e).1
+read_none z e = faulty HeadingFault z (refused (ltb max_words 0) (Err HeadingFault) z e).1
 
 -- at every index of a row that is read the word is in range, and what may follow it does
-pub read_place : (words : List ℕ) (z : Sizes) → reading words ≡ Read z → (i : ℕ) → i < length words
+pub read_place : (words : List ℕ) (z : Sizes) → reading words ≡ Ok z → (i : ℕ) → i < length words
     → Place z (decoded (get_or words i 0)) (parse (drop (suc i) words))
 read_place [] z e i h = absurd (read_none z e)
 read_place (w ∷ ws) z e zero h = (heading_place (decoded w) z (parse ws) (read_opened w ws z e).some).0
@@ -101,7 +101,7 @@ pub record Whole (words : List ℕ) : Type 0 where
   pub rules : (grammar_of words).rules ≡ (parse words).rules
   pub empty : Empty (parse words)
 
-pub read_whole : (words : List ℕ) (z : Sizes) → reading words ≡ Read z → Whole words
+pub read_whole : (words : List ℕ) (z : Sizes) → reading words ≡ Ok z → Whole words
 unfolding grammar_of parse
 read_whole [] z e = absurd (read_none z e)
 read_whole (w ∷ ws) z e =

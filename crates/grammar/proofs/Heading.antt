@@ -1,5 +1,6 @@
 -- What the first word settles of a reading.
-use mathlib.Core.Path.{◌≡◌, refl, ◌∙◌}
+use Rattle.std.specs.Prelude.{Err}
+use mathlib.Core.Path.{◌≡◌, refl}
 use mathlib.Core.Bool.{true, false}
 use mathlib.Core.List.{List, [], ◌∷◌}
 use mathlib.Core.Logic.{⊎_elim}
@@ -8,14 +9,13 @@ use native.Mathlib.Omega.{arith}
 use denote.Enum.Declared.{tag_of}
 use types.Run.{OneOf}
 use borrow.Author.Tests.{lt-ltb, le-ltb}
-use lib.ListN.{length, get_or, drop}
+use lib.ListN.{length}
 use Rattle.answer.specs.declared.Error.TheVariants.{Length, Heading as HeadingFault}
 use Rattle.word.specs.contracts.Word.{the_type}
 use Rattle.word.specs.declared.Word.{Word}
 use Rattle.word.specs.declared.Word.TheVariants.{Heading, Rule, Positive, Negative, Symbol, End, Invalid}
 use Rattle.word.specs.Words.{decoded}
 use Rattle.grammar.specs.declared.reading.Sizes.{Sizes}
-use Rattle.grammar.specs.declared.reading.Reading.TheVariants.{Faulty}
 use Rattle.grammar.specs.Limits.{max_words, max_nonterminals, max_terminals}
 use Rattle.grammar.specs.Encoding.{sizes, declared_by}
 use Rattle.grammar.specs.Reading.{fresh, scan, is_within, headed, opened, reading}
@@ -32,7 +32,7 @@ declares_none (Symbol X) h = refl
 declares_none End h = refl
 declares_none Invalid h = refl
 
-pub reading_long : (words : List ℕ) → max_words < length words → Faulty Length ≡ reading words
+pub reading_long : (words : List ℕ) → max_words < length words → Err Length ≡ reading words
 unfolding reading
 reading_long words l = rw (lt-ltb max_words (length words) l)
 
@@ -41,32 +41,28 @@ module _ (words : List ℕ) (short : length words ≤ max_words) where
   unfolding reading
   reading_short = rw (le-ltb max_words (length words) short)
 
-  pub reading_empty : length words ≡ 0 → Faulty HeadingFault ≡ reading words
+  pub reading_empty : length words ≡ 0 → Err HeadingFault ≡ reading words
   unfolding opened
   reading_empty e = rw reading_short (none words e)
     where
-      none : (ws : List ℕ) → length ws ≡ 0 → Faulty HeadingFault ≡ opened ws
+      none : (ws : List ℕ) → length ws ≡ 0 → Err HeadingFault ≡ opened ws
       none [] e = refl
       none (w ∷ ws) e = absurd (omega arith)
 
-  module _ (some : length words ≡ 0 → ⊥) {w : Word} {z : Sizes} (e : w ≡ decoded (get_or words 0 0)) (d : z ≡ declared_by w) where
-    reading_headed : reading words ≡ headed z (drop 1 words)
+  module _ {x : ℕ} {ws : List ℕ} (e : words ≡ x ∷ ws) {w : Word} {z : Sizes} (o : w ≡ decoded x) (d : z ≡ declared_by w) where
+    reading_headed : reading words ≡ headed z ws
     unfolding opened
-    reading_headed = reading_short ∙ first words some e
-      where
-        first : (ws : List ℕ) → (length ws ≡ 0 → ⊥) → w ≡ decoded (get_or ws 0 0) → opened ws ≡ headed z (drop 1 ws)
-        first [] n e = absurd (n refl)
-        first (x ∷ ws) n e = rw (← e, ← d)
+    reading_headed = rw (reading_short, e, ← o, ← d)
 
-    pub nonterminals_out : is_within z.nonterminals max_nonterminals ≡ false → Faulty HeadingFault ≡ reading words
+    pub nonterminals_out : is_within z.nonterminals max_nonterminals ≡ false → Err HeadingFault ≡ reading words
     unfolding headed
     nonterminals_out n = rw (reading_headed, n)
 
     module _ (n : is_within z.nonterminals max_nonterminals ≡ true) where
-      pub terminals_out : is_within z.terminals max_terminals ≡ false → Faulty HeadingFault ≡ reading words
+      pub terminals_out : is_within z.terminals max_terminals ≡ false → Err HeadingFault ≡ reading words
       unfolding headed
       terminals_out t = rw (reading_headed, n, t)
 
-      pub reading_rules : is_within z.terminals max_terminals ≡ true → scan (fresh z) 1 (drop 1 words) ≡ reading words
+      pub reading_rules : is_within z.terminals max_terminals ≡ true → scan (fresh z) 1 ws ≡ reading words
       unfolding headed
       reading_rules t = rw (reading_headed, n, t)

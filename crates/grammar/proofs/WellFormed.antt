@@ -1,4 +1,5 @@
 -- The words from any index on of a row that is read: what is in range, and which shape it has where it stands.
+use Rattle.std.specs.Prelude.{Err, Ok, Result}
 use mathlib.Core.Path.{◌≡◌, refl, sym, ap, ◌∙◌}
 use mathlib.Core.Bool.{Bool, true, false, false≢true}
 use mathlib.Core.List.Memᴰ
@@ -20,10 +21,6 @@ use Rattle.grammar.specs.declared.reading.State.{State}
 use Rattle.grammar.specs.declared.reading.State.TheVariants.{Before, Opened, InPositive, InNegative, Closed}
 use Rattle.grammar.specs.declared.reading.Sizes.{Sizes}
 use Rattle.grammar.specs.declared.reading.Progress.{Progress}
-use Rattle.grammar.specs.declared.reading.Step.{Step}
-use Rattle.grammar.specs.declared.reading.Step.TheVariants.{Go, Stop}
-use Rattle.grammar.specs.declared.reading.Reading.{Reading}
-use Rattle.grammar.specs.declared.reading.Reading.TheVariants.{Read, Faulty}
 use Rattle.grammar.specs.Limits.{max_rules}
 use Rattle.grammar.specs.Syntax.{Body, Rule, bodies, NonterminalsBelow, TerminalsBelow}
 use Rattle.grammar.specs.Encoding.{Parsed, parsed, rule_of, on_word, parse}
@@ -177,21 +174,21 @@ pub record Passed (w : Word) (p q : Progress) : Type 0 where
   pub rules : q.sizes.rules ≡ p.sizes.rules + one (begins_rule w)
   pub room : p.sizes.rules ≤ max_rules → q.sizes.rules ≤ max_rules
 
-go_same : (p q : Progress) → Go p ≡ Go q → q ≡ p
-go_same p q e = cc
+pub ok_same : {T : Type 0} (x y : T) → ◌≡◌ {A = Result T Error} (Ok x) (Ok y) → y ≡ x
+ok_same x y e = cc
 
-pub never : (x : Error) (q : Progress) → Stop x ≡ Go q → ⊥
-never x q e = let n : ◌≡◌ {A = ℕ} 0 1 = cc in omega arith
+pub faulty : {T : Type 0} (x : Error) (y : T) → Err x ≡ Ok y → ⊥
+faulty x y e = let n : ◌≡◌ {A = ℕ} 0 1 = cc in omega arith
 
-pub step_passed : (w : Word) (p q : Progress) (at : ℕ) → stepped w p at ≡ Go q → Passed w p q
+pub step_passed : (w : Word) (p q : Progress) (at : ℕ) → stepped w p at ≡ Ok q → Passed w p q
 step_passed w p q at e = go (stepped w p at) (stepping w p at) e
   where
-    go : (t : Step) → Stepped w p at t → t ≡ Go q → Passed w p q
-    go _ (Stepped.unexpected a) g = absurd (never (UnexpectedWord at) q g)
-    go _ (Stepped.out_of_range a i) g = absurd (never (OutOfRange at) q g)
-    go _ (Stepped.too_many a i b l) g = absurd (never (TooManyRules at) q g)
+    go : (t : Result Progress Error) → Stepped w p at t → t ≡ Ok q → Passed w p q
+    go _ (Stepped.unexpected a) g = absurd (faulty (UnexpectedWord at) q g)
+    go _ (Stepped.out_of_range a i) g = absurd (faulty (OutOfRange at) q g)
+    go _ (Stepped.too_many a i b l) g = absurd (faulty (TooManyRules at) q g)
     go _ (Stepped.rule a i b l) g =
-        rw (go_same _ q g) (record {
+        rw (ok_same _ q g) (record {
           allowed = a;
           ranged = i;
           state = refl;
@@ -201,7 +198,7 @@ step_passed w p q at e = go (stepped w p at) (stepping w p at) e
           room = λ _. omega arith;
         })
     go _ (Stepped.other a i b) g =
-        rw (go_same _ q g) (record {
+        rw (ok_same _ q g) (record {
           allowed = a;
           ranged = i;
           state = refl;
@@ -212,10 +209,10 @@ step_passed w p q at e = go (stepped w p at) (stepping w p at) e
         })
 
 -- a reading that goes on behind a word
-pub onward : (r : Step) (f : Progress → Reading) (z : Sizes) → on_step r f ≡ Read z → (q : Progress) × (r ≡ Go q) × (f q ≡ Read z)
+pub onward : (r : Result Progress Error) (f : Progress → Result Sizes Error) (z : Sizes) → on_step r f ≡ Ok z → (q : Progress) × (r ≡ Ok q) × (f q ≡ Ok z)
 unfolding on_step
-onward (Go q) f z e = (q, refl, e)
-onward (Stop x) f z e = let n : ◌≡◌ {A = ℕ} 0 1 = cc in absurd (omega arith)
+onward (Ok q) f z e = (q, refl, e)
+onward (Err x) f z e = let n : ◌≡◌ {A = ℕ} 0 1 = cc in absurd (omega arith)
 
 -- what a reading from an index to its end tells of the words
 pub record Reads (p : Progress) (z : Sizes) (ps : Parsed) : Type 0 where
@@ -245,26 +242,20 @@ in_range_same End y z n t = refl
 in_range_same (Heading m u) y z n t = refl
 in_range_same Invalid y z n t = refl
 
-pub faulty : (x : Error) (z : Sizes) → Faulty x ≡ Read z → ⊥
-faulty x z e = let n : ◌≡◌ {A = ℕ} 0 1 = cc in omega arith
-
-pub read_same : (y z : Sizes) → Read y ≡ Read z → z ≡ y
-read_same y z e = cc
-
 -- behind the last word: the end was there
-pub finished_read : (p : Progress) (at : ℕ) (z : Sizes) → finished p at ≡ Read z → (p.state ≡ Closed) × (z ≡ p.sizes)
+pub finished_read : (p : Progress) (at : ℕ) (z : Sizes) → finished p at ≡ Ok z → (p.state ≡ Closed) × (z ≡ p.sizes)
 unfolding finished
 finished_read p at z e = go p.state e
   where
-    go : (s : State) → choose (row false false false false true s) (Read p.sizes) (Faulty (UnexpectedWord at)) ≡ Read z
+    go : (s : State) → choose (row false false false false true s) (Ok p.sizes) (Err (UnexpectedWord at)) ≡ Ok z
         → (s ≡ Closed) × (z ≡ p.sizes)
     go Before e = absurd (faulty (UnexpectedWord at) z e)
     go Opened e = absurd (faulty (UnexpectedWord at) z e)
     go InPositive e = absurd (faulty (UnexpectedWord at) z e)
     go InNegative e = absurd (faulty (UnexpectedWord at) z e)
-    go Closed e = (refl, read_same p.sizes z e)
+    go Closed e = (refl, ok_same p.sizes z e)
 
-ended : (p : Progress) (at : ℕ) (z : Sizes) → finished p at ≡ Read z → Reads p z (parse [])
+ended : (p : Progress) (at : ℕ) (z : Sizes) → finished p at ≡ Ok z → Reads p z (parse [])
 unfolding parse
 ended p at z e =
     let f = finished_read p at z e in
@@ -277,7 +268,7 @@ ended p at z e =
     })
 
 -- from any index on
-pub reads : (p : Progress) (at : ℕ) (ws : List ℕ) (z : Sizes) → scan p at ws ≡ Read z → Reads p z (parse ws)
+pub reads : (p : Progress) (at : ℕ) (ws : List ℕ) (z : Sizes) → scan p at ws ≡ Ok z → Reads p z (parse ws)
 unfolding scan parse
 reads p at [] z e = ended p at z e
 reads p at (w ∷ ws) z e =

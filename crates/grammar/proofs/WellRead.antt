@@ -1,4 +1,6 @@
 -- A row that is read without a fault is a well-formed grammar of the sizes told.
+use Rattle.std.specs.Prelude.{Err, Ok, Result}
+use Rattle.answer.specs.declared.Error.{Error}
 use mathlib.Core.Path.{◌≡◌, refl, sym, ap, ◌∙◌}
 use mathlib.Core.Bool.{Bool, true, false, ◌&&◌, false≢true}
 use mathlib.Core.List.{List, [], ◌∷◌, ◌++◌}
@@ -15,8 +17,6 @@ use Rattle.word.specs.declared.Word.TheVariants.{Heading, Rule as RuleWord, Posi
 use Rattle.base.specs.Choice.{choose}
 use Rattle.word.specs.Words.{decoded}
 use Rattle.grammar.specs.declared.reading.Sizes.{Sizes}
-use Rattle.grammar.specs.declared.reading.Reading.{Reading}
-use Rattle.grammar.specs.declared.reading.Reading.TheVariants.{Read, Faulty}
 use Rattle.grammar.specs.Limits.{max_words, max_nonterminals, max_terminals, max_rules}
 use Rattle.grammar.specs.Syntax.{Grammar, WellFormed}
 use Rattle.grammar.specs.Encoding.{declared_by, parse, grammar_of}
@@ -27,11 +27,11 @@ use Rattle.grammar.proofs.WellFormed.{Each, RuleFits, faulty, Reads, reads}
 use Rattle.grammar.proofs.Begins.{Begins, begins, as_many}
 
 -- a choice that is read was taken on its good side
-pub chosen : (b : Bool) (o : Reading) (z : Sizes) → choose b o (Faulty HeadingFault) ≡ Read z → (b ≡ true) × (o ≡ Read z)
+pub chosen : (b : Bool) (o : Result Sizes Error) (z : Sizes) → choose b o (Err HeadingFault) ≡ Ok z → (b ≡ true) × (o ≡ Ok z)
 chosen true o z e = (refl, e)
 chosen false o z e = absurd (faulty HeadingFault z e)
 
-pub refused : (b : Bool) (o : Reading) (z : Sizes) → choose b (Faulty Length) o ≡ Read z → (b ≡ false) × (o ≡ Read z)
+pub refused : (b : Bool) (o : Result Sizes Error) (z : Sizes) → choose b (Err Length) o ≡ Ok z → (b ≡ false) × (o ≡ Ok z)
 refused true o z e = absurd (faulty Length z e)
 refused false o z e = (refl, e)
 
@@ -140,9 +140,9 @@ declares_no_rules (Symbol X) = refl
 declares_no_rules End = refl
 declares_no_rules Invalid = refl
 
-pub well_read : (words : List ℕ) (z : Sizes) → reading words ≡ Read z → WellRead words z
+pub well_read : (words : List ℕ) (z : Sizes) → reading words ≡ Ok z → WellRead words z
 unfolding reading opened headed
-well_read [] z e = absurd (faulty HeadingFault z (refused (ltb max_words 0) (Faulty HeadingFault) z e).1)
+well_read [] z e = absurd (faulty HeadingFault z (refused (ltb max_words 0) (Err HeadingFault) z e).1)
 well_read (w ∷ ws) z e =
     let s = refused (ltb max_words (length (w ∷ ws))) (opened (w ∷ ws)) z e in
     let d = declared_by (decoded w) in

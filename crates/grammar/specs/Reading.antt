@@ -1,5 +1,6 @@
 -- What reading an encoded grammar finds: its first fault, or its sizes.
-use Rattle.std.specs.Prelude.{Bool, true, false, ◌&&◌, List, [], ◌∷◌, ℕ, suc, ◌+◌, leb, ltb, length}
+use Rattle.std.specs.Prelude.{Err, Ok, Result, Bool, true, false, ◌&&◌, List, [], ◌∷◌, ℕ, suc, ◌+◌, leb, ltb, length}
+use Rattle.answer.specs.declared.Error.{Error}
 use Rattle.answer.specs.declared.Error.TheVariants.{Length, Heading as HeadingFault, UnexpectedWord, OutOfRange, TooManyRules}
 use Rattle.word.specs.declared.Symbol.TheVariants.{Terminal, Nonterminal}
 use Rattle.word.specs.declared.Symbol as symbol
@@ -11,10 +12,6 @@ use Rattle.grammar.specs.declared.reading.State.{State}
 use Rattle.grammar.specs.declared.reading.State.TheVariants.{Before, Opened, InPositive, InNegative, Closed}
 use Rattle.grammar.specs.declared.reading.Sizes.{Sizes}
 use Rattle.grammar.specs.declared.reading.Progress.{Progress}
-use Rattle.grammar.specs.declared.reading.Step.{Step}
-use Rattle.grammar.specs.declared.reading.Step.TheVariants.{Go, Stop}
-use Rattle.grammar.specs.declared.reading.Reading.{Reading}
-use Rattle.grammar.specs.declared.reading.Reading.TheVariants.{Read, Faulty}
 use Rattle.grammar.specs.Limits.{max_words, max_nonterminals, max_terminals, max_rules}
 use Rattle.grammar.specs.Encoding.{declared_by}
 
@@ -74,28 +71,28 @@ abbrev pub one_more : Sizes → Sizes
 one_more z = record { nonterminals = z.nonterminals; terminals = z.terminals; rules = z.rules + 1 }
 
 -- one rule more, where there is room for it
-unfoldable pub counted : State → Sizes → ℕ → Step
-counted s z at = choose (leb max_rules z.rules) (Stop (TooManyRules at)) (Go (progress s (one_more z)))
+unfoldable pub counted : State → Sizes → ℕ → Result Progress Error
+counted s z at = choose (leb max_rules z.rules) (Err (TooManyRules at)) (Ok (progress s (one_more z)))
 
 -- the word at an index: the first of three faults, or the progress behind it
-unfoldable pub stepped : Word → Progress → ℕ → Step
+unfoldable pub stepped : Word → Progress → ℕ → Result Progress Error
 stepped w p at =
     choose (allows w p.state)
     (choose (in_range w p.sizes)
-    (choose (begins_rule w) (counted (state_after w p.state) p.sizes at) (Go (progress (state_after w p.state) p.sizes)))
-    (Stop (OutOfRange at)))
-    (Stop (UnexpectedWord at))
+    (choose (begins_rule w) (counted (state_after w p.state) p.sizes at) (Ok (progress (state_after w p.state) p.sizes)))
+    (Err (OutOfRange at)))
+    (Err (UnexpectedWord at))
 
-unfoldable pub on_step : Step → (Progress → Reading) → Reading
-on_step (Go p) f = f p
-on_step (Stop e) f = Faulty e
+unfoldable pub on_step : Result Progress Error → (Progress → Result Sizes Error) → Result Sizes Error
+on_step (Ok p) f = f p
+on_step (Err e) f = Err e
 
 -- behind the last word: the end must have been there
-unfoldable pub finished : Progress → ℕ → Reading
-finished p at = choose (row false false false false true p.state) (Read p.sizes) (Faulty (UnexpectedWord at))
+unfoldable pub finished : Progress → ℕ → Result Sizes Error
+finished p at = choose (row false false false false true p.state) (Ok p.sizes) (Err (UnexpectedWord at))
 
 -- the words from an index on
-unfoldable pub scan : Progress → ℕ → List ℕ → Reading
+unfoldable pub scan : Progress → ℕ → List ℕ → Result Sizes Error
 scan p at [] = finished p at
 scan p at (w ∷ ws) = on_step (stepped (decoded w) p at) (λ q. scan q (suc at) ws)
 
@@ -106,12 +103,12 @@ unfoldable pub is_within : ℕ → ℕ → Bool
 is_within n limit = ltb 0 n && leb n limit
 
 -- by what the first word declares, and the words behind it
-unfoldable pub headed : Sizes → List ℕ → Reading
-headed z ws = choose (is_within z.nonterminals max_nonterminals && is_within z.terminals max_terminals) (scan (fresh z) 1 ws) (Faulty HeadingFault)
+unfoldable pub headed : Sizes → List ℕ → Result Sizes Error
+headed z ws = choose (is_within z.nonterminals max_nonterminals && is_within z.terminals max_terminals) (scan (fresh z) 1 ws) (Err HeadingFault)
 
-unfoldable pub opened : List ℕ → Reading
-opened [] = Faulty HeadingFault
+unfoldable pub opened : List ℕ → Result Sizes Error
+opened [] = Err HeadingFault
 opened (w ∷ ws) = headed (declared_by (decoded w)) ws
 
-unfoldable pub reading : List ℕ → Reading
-reading words = choose (ltb max_words (length words)) (Faulty Length) (opened words)
+unfoldable pub reading : List ℕ → Result Sizes Error
+reading words = choose (ltb max_words (length words)) (Err Length) (opened words)

@@ -1,6 +1,4 @@
 // How far a reading of an encoded grammar has come, and what it tells.
-use answer::Error;
-
 // What stands before the next word.
 #[derive(Clone, Copy)]
 pub enum State {
@@ -14,7 +12,8 @@ pub enum State {
     Closed,
 }
 
-#[derive(Clone, Copy)]
+// The default is of a grammar that has nothing.
+#[derive(Clone, Copy, Default)]
 pub struct Sizes {
     pub nonterminals: u32,
     pub terminals: u32,
@@ -26,16 +25,4 @@ pub struct Sizes {
 pub struct Progress {
     pub state: State,
     pub sizes: Sizes,
-}
-
-#[derive(Clone, Copy)]
-pub enum Step {
-    Go(Progress),
-    Stop(Error),
-}
-
-#[derive(Clone, Copy)]
-pub enum Reading {
-    Read(Sizes),
-    Faulty(Error),
 }

@@ -2,7 +2,7 @@
 use mathlib.Core.Path.{◌≡◌, refl, sym, ap, ◌∙◌}
 use mathlib.Core.Bool.{Bool, true, false}
 use Prim.Native.Nat.{ℕ, zero, suc, ◌+◌, ◌*◌, ◌^◌, ◌≤◌, ◌<◌}
-use native.Mathlib.Nat.{pow-zero, pow-suc, pow-le-pow_right, mul-le-mul, mul-zero}
+use native.Mathlib.Nat.{pow-suc, pow-le-pow_right, mul-zero}
 use native.Mathlib.Numerals.{add-one}
 use native.Mathlib.Omega.{arith}
 use lib.Dec.{ltb}
@@ -11,28 +11,18 @@ use Rattle.base.specs.Choice.{choose}
 use Rattle.inputs.specs.Inputs.{max_inputs}
 use Rattle.inputs.specs.inner.Inputs.{input_count}
 
-pub record Counting (terminals tokens inputs at : ℕ) : Type 0 where
-  pub within : at ≤ tokens
+pub record Counting (terminals inputs at : ℕ) : Type 0 where
   pub power : inputs ≡ terminals ^ at
   pub few : inputs ≤ max_inputs
 
-pub counting_start : (t n : ℕ) → Counting t n 1 0
-counting_start t n = record { within = omega arith; power = sym (pow-zero t); few = omega arith }
-
-module _ {t n m at : ℕ} (c : Counting t n m at) where
-  pub product_fits : t < 2 ^ 32 → m * t < 2 ^ 64
-  product_fits h = let q = mul-le-mul {n₁ = m} {m₁ = t} {n₂ = max_inputs} {m₂ = 4294967296} c.few (omega arith) in omega arith
-
+module _ {t m at : ℕ} (c : Counting t m at) where
   next_power : m * t ≡ t ^ (at + 1)
   next_power = rw (c.power, add-one at) (sym (pow-suc t at))
 
-  pub counting_next : at < n → m * t ≤ max_inputs → Counting t n (m * t) (at + 1)
-  counting_next h l = record { within = omega arith; power = next_power; few = l }
-
   -- more tokens give no fewer inputs
-  pub counted_more : at < n → max_inputs < m * t → max_inputs + 1 ≡ input_count t n
+  pub counted_more : {n : ℕ} → at < n → max_inputs < m * t → max_inputs + 1 ≡ input_count t n
   unfolding input_count
-  counted_more h l =
+  counted_more {n} h l =
       let g = pow-le-pow_right (some_terminal t l) {i = at + 1} {j = n} (omega arith) in
       rw (lt-ltb max_inputs (t ^ n) (omega (arith, next_power)))
     where
@@ -40,10 +30,10 @@ module _ {t n m at : ℕ} (c : Counting t n m at) where
       some_terminal zero q = absurd (omega (arith, mul-zero m))
       some_terminal (suc s) q = omega arith
 
-  pub counted_all : n ≤ at → m ≡ input_count t n
+  pub counted_all : {n : ℕ} → at ≤ n → n ≤ at → m ≡ input_count t n
   unfolding input_count
-  counted_all h =
-      let e : at ≡ n = omega (arith, c.within) in
+  counted_all {n} w h =
+      let e : at ≡ n = omega arith in
       let p : m ≡ t ^ n = c.power ∙ ap (λ k. t ^ k) e in
       rw (le-ltb max_inputs (t ^ n) (omega (arith, c.few))) p
 

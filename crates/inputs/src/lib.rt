@@ -8,17 +8,16 @@ ghost use Rattle.inputs.specs.inner.Inputs.{input_at, input_count, no_trials, tr
 pub const INPUTS: usize = 4096;
 
 // How many inputs of a length there are, or one more than are searched where there are more.
+#[tactic(auto, using(crate::proofs::Counting::counted_more, crate::proofs::Counting::counted_all))]
 pub fn count_inputs(terminals: u32, tokens: usize) -> usize
     ensures { result ≡ input_count terminals tokens }
 {
     let mut inputs = 1;
-    let mut at = 0;
-    while at < tokens {
-        inputs = inputs * terminals as usize;
+    for _ in 0..tokens {
+        inputs *= terminals as usize;
         if INPUTS < inputs {
             return INPUTS + 1;
         }
-        at = at + 1;
     }
     inputs
 }
@@ -27,18 +26,16 @@ pub fn count_inputs(terminals: u32, tokens: usize) -> usize
 pub fn write_input(input: &mut [u8], last: u8, number: usize)
     ensures { input.new ≡ input_at (last + 1) (length input.old) number }
 {
-    let terminals = last as usize + 1;
+    let terminals = usize::from(last) + 1;
     let mut rest = number;
-    let mut at = input.len();
-    while 0 < at {
-        at = at - 1;
+    for at in (0..input.len()).rev() {
         input[at] = (rest % terminals) as u8;
-        rest = rest / terminals;
+        rest /= terminals;
     }
 }
 
 // Inputs tried by their numbers: which is the next, and of those before it the costliest, with its calls.
-#[derive(Clone, Copy)]
+#[derive(Clone, Copy, Default)]
 pub struct Trials {
     pub next: usize,
     pub best: usize,
@@ -48,11 +45,7 @@ pub struct Trials {
 pub fn no_trials() -> Trials
     ensures { result ≡ no_trials }
 {
-    Trials {
-        next: 0,
-        best: 0,
-        calls: 0,
-    }
+    Trials::default()
 }
 
 // When the next has been tried and costs so many calls: of two that cost as many the first is kept. Its number is below that of the inputs that are
@@ -62,15 +55,12 @@ pub fn tried(trials: Trials, calls: usize) -> Trials
 {
     let next = trials.next % INPUTS + 1;
     if trials.calls < calls {
-        return Trials {
+        Trials {
             next,
             best: trials.next,
             calls,
-        };
-    }
-    Trials {
-        next,
-        best: trials.best,
-        calls: trials.calls,
+        }
+    } else {
+        Trials { next, ..trials }
     }
 }

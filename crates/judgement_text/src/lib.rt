@@ -5,13 +5,14 @@ ghost use Rattle.std.specs.Prelude.{◌++◌};
 ghost use Rattle.text.specs.Ascii.{ascii};
 ghost use Rattle.text.specs.Decimal.{decimal, labelled};
 ghost use Rattle.text.specs.Writing.{Put};
+ghost use Rattle.calls_text.specs.Calls.{calls_text};
 ghost use Rattle.judgement_text.specs.Judgement.{judgement_text};
 
 use answer::{Answer, Calls};
 use calls_text::put_calls;
 use grammar::limits::MEMO_ENTRIES;
 use refusal_text::put_refusal;
-use text::put::{put_bytes, put_labelled};
+use text::Output;
 
 pub mod sizes;
 
@@ -20,16 +21,29 @@ const VERDICT_ROOM: usize = 51;
 
 pub const ROOM: usize = VERDICT_ROOM + MEMO_ENTRIES * calls_text::ROOM;
 
-fn put_verdict(out: &mut [u8], at: usize, verdict: &[u8], calls: Calls) -> usize
-    ensures { Put out.old at
-        ((verdict.now ++ decimal calls.count) ++ labelled " " calls.farthest ++ ascii "\n") out.new result }
+// A verdict with its two numbers, then the calls.
+fn put_verdict(
+    out: &mut [u8],
+    verdict: &[u8],
+    calls: Calls,
+    nonterminals: u32,
+    tokens: u16,
+    memo: &[u16],
+) -> usize
+    ensures { Put out.old 0
+        (((verdict.now ++ decimal calls.count) ++ labelled " " calls.farthest ++ ascii "\n") ++ calls_text nonterminals tokens memo.now)
+        out.new result }
 {
-    let at = put_labelled(out, at, verdict, calls.count);
-    let at = put_labelled(out, at, b" ", calls.farthest);
-    put_bytes(out, at, b"\n")
+    let mut output = Output { bytes: out, at: 0 };
+    output.put_labelled(verdict, calls.count);
+    output.put_labelled(b" ", calls.farthest);
+    output.put_bytes(b"\n");
+    put_calls(&mut output, nonterminals, tokens, memo);
+    output.at
 }
 
 // What is printed of an answer about an input of so many tokens.
+#[tactic(auto, unfolding(crate::specs::Judgement::judgement_text, crate::specs::Judgement::verdict_line))]
 pub fn put_judgement(
     out: &mut [u8],
     answer: Answer,
@@ -43,12 +57,10 @@ pub fn put_judgement(
         Answer::Refused(error) => put_refusal(out, 0, error),
         Answer::Passed => 0,
         Answer::Rejected(calls) => {
-            let at = put_verdict(out, 0, b"rejected ", calls);
-            put_calls(out, at, nonterminals, tokens, memo)
+            put_verdict(out, b"rejected ", calls, nonterminals, tokens, memo)
         }
         Answer::Accepted(calls) => {
-            let at = put_verdict(out, 0, b"accepted ", calls);
-            put_calls(out, at, nonterminals, tokens, memo)
+            put_verdict(out, b"accepted ", calls, nonterminals, tokens, memo)
         }
     }
 }

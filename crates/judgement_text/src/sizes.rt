@@ -2,16 +2,17 @@
 ghost use Rattle.std.specs.Prelude.{◌≡◌};
 ghost use Rattle.judgement_text.specs.inner.Sizes.{nonterminals_of, token_count};
 
-use families::Finding;
+use answer::Error;
 use grammar::limits::TOKENS;
+use grammar::reading::Sizes;
 
 // How many nonterminals a grammar has that is found to pass.
-pub fn nonterminals(finding: Finding) -> u32
+pub fn nonterminals(finding: Result<Sizes, Error>) -> u32
     ensures { result ≡ nonterminals_of finding }
 {
     match finding {
-        Finding::Passed(sizes) => sizes.nonterminals,
-        Finding::Refused(_) => 0,
+        Ok(sizes) => sizes.nonterminals,
+        Err(_) => 0,
     }
 }
 

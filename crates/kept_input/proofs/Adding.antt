@@ -2,13 +2,12 @@
 use mathlib.Core.Path.{◌≡◌, sym, ap, ◌∙◌}
 use mathlib.Core.List.{List, [], ◌∷◌, ◌++◌}
 use mathlib.Core.Option.{none}
-use Prim.Native.Nat.{ℕ, suc, ◌+◌, ◌≤◌, ◌<◌}
+use Prim.Native.Nat.{ℕ, suc, ◌+◌, ◌<◌}
 use native.Mathlib.Omega.{arith}
 use lib.ListN.{length, take, drop, set, replicate, length-append}
 use lib.Seq.{length-take-le, set_split, append_snoc}
-use borrow.Author.Tests.{le-leb, lt-leb}
-use Rattle.answer.specs.declared.Answer.TheVariants.{Refused, Passed}
-use Rattle.answer.specs.declared.Error.TheVariants.{InputFull}
+use borrow.Author.Tests.{lt-leb}
+use Rattle.std.specs.Prelude.{Ok}
 use Rattle.grammar.specs.Limits.{max_tokens}
 use Rattle.kept_steps.specs.Histories.{mark_count, empty_input, Add, step_fault, done}
 use Rattle.kept_steps.proofs.Soundness.{empty_sound}
@@ -17,7 +16,7 @@ use Rattle.kept_marks.specs.Stored.{held_by, progress_of}
 use Rattle.kept_marks.specs.Properties.{Reads, StepsIn}
 use Rattle.kept_marks.proofs.Storing.{held_stored}
 use Rattle.kept_marks.proofs.Holding.{held_length, held_sound}
-use Rattle.kept_marks.proofs.Stepping.{step_refused, step_done, same_progress}
+use Rattle.kept_marks.proofs.Stepping.{step_done, same_progress}
 use Rattle.kept_input.specs.declared.KeptInput.{KeptInput}
 use Rattle.kept_input.specs.Held.{kept_input, held_input, stored_input}
 use Rattle.kept_input.specs.Properties.{BeginsEmpty}
@@ -41,12 +40,8 @@ module _ (events : List ℕ) (p : Progress) (whole : length events ≡ max_token
   unfolding progress_of
   read_length = ap (λ (q : Progress). q.length) (reads.stored events whole)
 
-  pub add_full : (event : ℕ) → max_tokens ≤ now.length → StepsIn (Add event) events p (record { answer = Refused InputFull; progress = p }) events
-  unfolding step_fault
-  add_full event h = step_refused (Add event) events p InputFull (rw (le-leb max_tokens (length (held_by events p).events) (omega (arith, h, read_length))))
-
   pub add_done : (event : ℕ) → now.length < max_tokens
-      → StepsIn (Add event) events p (record { answer = Passed; progress = record { length = now.length + 1; marks = now.marks } })
+      → StepsIn (Add event) events p (Ok (record { length = now.length + 1; marks = now.marks }))
       (set events now.length event)
   unfolding step_fault done held_by progress_of
   add_done event h =

@@ -1,5 +1,6 @@
 -- What a kept input promises, on one page: of each step and of a judgement, for any value that is passed in.
-use Rattle.std.specs.Prelude.{◌≡◌, List, ℕ, ◌≤◌, length, replicate}
+use Rattle.std.specs.Prelude.{◌≡◌, List, ℕ, ◌≤◌, length, replicate, Result, Ok, Err}
+use Rattle.answer.specs.declared.Error.{Error}
 use Rattle.answer.specs.declared.Answer.{Answer}
 use Rattle.grammar.specs.Limits.{max_tokens}
 use Rattle.event.specs.Events.{input_of}
@@ -7,10 +8,8 @@ use Rattle.lookahead.specs.declared.Lookahead.{Lookahead}
 use Rattle.recognizer_promises.specs.Properties.{Judges}
 use Rattle.kept_steps.specs.Histories.{empty_input, Step, Add, ran}
 use Rattle.kept_marks.specs.declared.Progress.{Progress}
-use Rattle.kept_marks.specs.declared.Moved.{Moved}
-use Rattle.kept_marks.specs.Properties.{StepsIn}
+use Rattle.kept_marks.specs.Properties.{step_left, StepsIn}
 use Rattle.kept_input.specs.declared.KeptInput.{KeptInput}
-use Rattle.kept_input.specs.declared.Changed.{Changed}
 use Rattle.kept_input.specs.Held.{held_input, stored_input}
 
 -- the value that a history begins with
@@ -18,12 +17,17 @@ pub record BeginsEmpty (k : KeptInput) : Type 0 where
   pub value : k ≡ stored_input (replicate max_tokens 0) empty_input
   pub holds : held_input k ≡ empty_input
 
+-- what a step gives, but for the events
+abbrev pub progress_of_step : Result KeptInput Error → Result Progress Error
+progress_of_step (Ok k) = Ok k.progress
+progress_of_step (Err e) = Err e
+
 -- a step, of any value
-abbrev pub Steps : (t : Step) (before : KeptInput) (r : Changed) → Type 0
-Steps t before r = StepsIn t before.events before.progress (record { answer = r.answer; progress = r.kept.progress }) r.kept.events
+abbrev pub Steps : (t : Step) (before : KeptInput) (r : Result KeptInput Error) → Type 0
+Steps t before r = StepsIn t before.events before.progress (progress_of_step r) (step_left r before).events
 
 -- an event added to events that stand in lent memory
-abbrev pub Adds : (event : ℕ) (events : List ℕ) (before : Progress) (events' : List ℕ) (r : Moved) → Type 0
+abbrev pub Adds : (event : ℕ) (events : List ℕ) (before : Progress) (events' : List ℕ) (r : Result Progress Error) → Type 0
 Adds event events before events' r = StepsIn (Add event) events before r events'
 
 -- judging what is kept

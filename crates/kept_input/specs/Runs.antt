@@ -1,5 +1,6 @@
--- Any history of steps, each of the value that the one before it handed back, and what is promised of it.
-use Rattle.std.specs.Prelude.{◌≡◌, List, [], ◌∷◌, ℕ}
+-- Any history of steps, each of the value that the one before it left, and what is promised of it.
+use Rattle.std.specs.Prelude.{◌≡◌, List, [], ◌∷◌, ℕ, Result}
+use Rattle.answer.specs.declared.Error.{Error}
 use Rattle.answer.specs.declared.Answer.{Answer}
 use Rattle.event.specs.Events.{input_of}
 use Rattle.lookahead.specs.declared.Lookahead.{Lookahead}
@@ -7,14 +8,14 @@ use Rattle.recognizer_promises.specs.Properties.{Judges}
 use Rattle.kept_steps.specs.Histories.{empty_input, Step, ran}
 use Rattle.kept_steps.specs.Sound.{Sound}
 use Rattle.kept_input.specs.declared.KeptInput.{KeptInput}
-use Rattle.kept_input.specs.declared.Changed.{Changed}
+use Rattle.kept_marks.specs.Properties.{step_left}
 use Rattle.kept_input.specs.Held.{held_input}
 use Rattle.kept_input.specs.Properties.{Steps, JudgesKept}
 
 -- by these steps from a value to a value
 pub data KeptRun : KeptInput → List Step → KeptInput → Type 0 where
   idle : {k : KeptInput} → KeptRun k [] k
-  next : {k last : KeptInput} {t : Step} {l : List Step} (r : Changed) → Steps t k r → KeptRun r.kept l last → KeptRun k (t ∷ l) last
+  next : {k last : KeptInput} {t : Step} {l : List Step} (r : Result KeptInput Error) → Steps t k r → KeptRun (step_left r k) l last → KeptRun k (t ∷ l) last
 
 -- of any history
 pub record HistoriesKept : Type 0 where

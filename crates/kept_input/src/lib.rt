@@ -5,23 +5,17 @@ ghost use Rattle.kept_steps.specs.Histories.{Add, Mark, Return};
 ghost use Rattle.kept_input.specs.inner.Whole.{ReadWhole};
 ghost use Rattle.kept_input.specs.Properties.{BeginsEmpty, Steps, Adds};
 
-use answer::{Answer, Error};
+use answer::Error;
 use grammar::limits::TOKENS;
-use kept_marks::{Moved, Progress};
+use kept_marks::Progress;
 
 const LIMIT: u16 = TOKENS as u16;
 
 // The input is the first events, as they came, as many as the length says.
-#[derive(Drop)]
+#[derive(Clone, Copy)]
 pub struct KeptInput {
     pub events: [u8; TOKENS],
     pub progress: Progress,
-}
-
-#[derive(Drop)]
-pub struct Changed {
-    pub answer: Answer,
-    pub kept: KeptInput,
 }
 
 impl KeptInput {
@@ -38,79 +32,52 @@ impl KeptInput {
     fn read(self) -> Progress
         ensures { ReadWhole self result }
     {
-        let progress = self.progress;
-        progress.read()
+        self.progress.read()
     }
 
-    pub fn add(self, event: u8) -> Changed
+    pub fn add(self, event: u8) -> Result<KeptInput, Error>
         ensures { Steps (Add event) self result }
     {
-        let old = self.progress;
         let mut events = self.events;
-        let moved = add_event(&mut events, old, event);
-        let answer = moved.answer;
-        let progress = moved.progress;
-        Changed {
-            answer,
-            kept: KeptInput { events, progress },
-        }
+        let progress = add_event(&mut events, self.progress, event)?;
+        Ok(KeptInput { events, progress })
     }
 
-    pub fn mark(self, mark: u32) -> Changed
+    pub fn mark(self, mark: u32) -> Result<KeptInput, Error>
         ensures { Steps (Mark mark) self result }
     {
-        let old = self.progress;
-        let moved = old.mark(mark);
-        let answer = moved.answer;
-        let progress = moved.progress;
-        let events = self.events;
-        Changed {
-            answer,
-            kept: KeptInput { events, progress },
-        }
+        let progress = self.progress.mark(mark)?;
+        Ok(KeptInput { progress, ..self })
     }
 
-    pub fn return_to(self, mark: u32) -> Changed
+    pub fn return_to(self, mark: u32) -> Result<KeptInput, Error>
         ensures { Steps (Return mark) self result }
     {
-        let old = self.progress;
-        let moved = old.return_to(mark);
-        let answer = moved.answer;
-        let progress = moved.progress;
-        let events = self.events;
-        Changed {
-            answer,
-            kept: KeptInput { events, progress },
-        }
+        let progress = self.progress.return_to(mark)?;
+        Ok(KeptInput { progress, ..self })
     }
 }
 
 // Adds an event where the events stand, and writes no other.
 #[tactic(auto, unfolding(kept_steps::specs::Histories::step_fault, kept_steps::specs::Histories::after_step, kept_marks::specs::Stored::progress_of))]
-pub fn add_event(events: &mut [u8; TOKENS], progress: Progress, event: u8) -> Moved
+pub fn add_event(
+    events: &mut [u8; TOKENS],
+    progress: Progress,
+    event: u8,
+) -> Result<Progress, Error>
     ensures { Adds event events.old progress events.new result }
 {
-    let old = *events;
     let before = KeptInput {
-        events: old,
+        events: *events,
         progress,
     };
     let now = before.read();
-    let length = now.length;
-    if LIMIT <= length {
-        return Moved {
-            answer: Answer::Refused(Error::InputFull),
-            progress,
-        };
+    if LIMIT <= now.length {
+        return Err(Error::InputFull);
     }
-    events[length as usize] = event;
-    let longer = length + 1;
-    let marks = now.marks;
-    Moved {
-        answer: Answer::Passed,
-        progress: Progress {
-            length: longer,
-            marks,
-        },
-    }
+    events[now.length as usize] = event;
+    Ok(Progress {
+        length: now.length + 1,
+        ..now
+    })
 }

@@ -1,42 +1,14 @@
--- Lists by their elements: a function applied to the first of them, and a function's values in a row.
+-- Lists by their elements: two functions one after the other, and a function's values in a row.
 use mathlib.Core.Path.{◌≡◌, refl, ap, fun_ext}
 use mathlib.Core.List.{List, [], ◌∷◌, map}
-use Prim.Native.Nat.{ℕ, zero, suc, ◌+◌, ◌≤◌, ◌<◌}
-use native.Mathlib.Numerals.{add-one}
+use Prim.Native.Nat.{ℕ, zero, suc, ◌<◌}
 use native.Mathlib.Omega.{arith}
 use lib.Dec.{eqb, eqb-zero-suc, eqb-suc-zero, eqb-suc-suc}
 use lib.ListN.{length, get_or, set}
 use Rattle.base.specs.Choice.{choose}
 use Rattle.kept_marks.specs.Stored.{values_of}
 
--- a function applied to the first elements of a list
-unfoldable pub applied_to : (ℕ → ℕ) → ℕ → List ℕ → List ℕ
-applied_to f zero l = l
-applied_to f (suc n) [] = []
-applied_to f (suc n) (x ∷ l) = f x ∷ applied_to f n l
-
-pub applied_none : (f : ℕ → ℕ) (l : List ℕ) → l ≡ applied_to f 0 l
-unfolding applied_to
-applied_none f l = refl
-
-applied_suc : (f : ℕ → ℕ) (n : ℕ) (l : List ℕ) → set (applied_to f n l) n (f (get_or (applied_to f n l) n 0)) ≡ applied_to f (suc n) l
-unfolding applied_to
-applied_suc f zero [] = refl
-applied_suc f zero (x ∷ l) = refl
-applied_suc f (suc n) [] = refl
-applied_suc f (suc n) (x ∷ l) = ap (λ (m : List ℕ). f x ∷ m) (applied_suc f n l)
-
-pub applied_more : (f : ℕ → ℕ) (n : ℕ) (l : List ℕ) {now : List ℕ} {y : ℕ} → now ≡ applied_to f n l → y ≡ f (get_or now n 0)
-    → set now n y ≡ applied_to f (n + 1) l
-applied_more f n l e q = rw (q, e, add-one n) (applied_suc f n l)
-
-pub applied_all : (f : ℕ → ℕ) (n : ℕ) (l : List ℕ) → length l ≤ n → applied_to f n l ≡ map f l
-unfolding applied_to
-applied_all f zero [] h = refl
-applied_all f zero (x ∷ l) h = absurd (omega arith)
-applied_all f (suc n) [] h = refl
-applied_all f (suc n) (x ∷ l) h = ap (λ (m : List ℕ). f x ∷ m) (applied_all f n l (omega arith))
-
+-- one function behind another
 pub map_map : (f g : ℕ → ℕ) (l : List ℕ) → map g (map f l) ≡ map (λ x. g (f x)) l
 map_map f g [] = refl
 map_map f g (x ∷ l) = ap (λ (m : List ℕ). g (f x) ∷ m) (map_map f g l)

@@ -9,7 +9,7 @@ use lib.Dec.{leb, eqb}
 use lib.ListN.{length, get_or, take, drop, set, take-append-drop}
 use lib.Seq.{length-take-le, take-take}
 use borrow.Author.Tests.{leb-true, le-leb, lt-leb}
-use Rattle.answer.specs.declared.Answer.TheVariants.{Refused, Passed}
+use Rattle.std.specs.Prelude.{Ok, Err}
 use Rattle.answer.specs.declared.Error.{Error}
 use Rattle.answer.specs.declared.Error.TheVariants.{UnknownMark, MarkNotSet}
 use Rattle.base.specs.Choice.{choose}
@@ -28,13 +28,13 @@ use Rattle.kept_marks.proofs.Holding.{held_sound}
 
 -- a step by whether it is refused
 module _ (t : Step) (events : List ℕ) (p : Progress) where
-  pub step_refused : (x : Error) → step_fault t (held_by events p) ≡ some x → StepsIn t events p (record { answer = Refused x; progress = p }) events
+  pub step_refused : (x : Error) → step_fault t (held_by events p) ≡ some x → StepsIn t events p (Err x) events
   unfolding after_step
   step_refused x q = record { leaves = leaves_refused q tt; events_left = rw q; progress_left = rw q; holds = rw q }
 
   pub step_done : {events' : List ℕ} {next : Progress} → Sound (held_by events p) → step_fault t (held_by events p) ≡ none
       → events' ≡ stored_events events (done t (held_by events p)) → next ≡ progress_of (done t (held_by events p))
-      → StepsIn t events p (record { answer = Passed; progress = next }) events'
+      → StepsIn t events p (Ok next) events'
   unfolding after_step
   step_done h q e f = record {
     leaves = leaves_alike q (leaves refl tt);
@@ -118,10 +118,7 @@ module _ (events : List ℕ) (p : Progress) (whole : length events ≡ max_token
     read_length = ap (λ (q : Progress). q.length) e
 
     pub mark_done : (m : ℕ) → m < mark_count
-        → StepsIn (Mark m) events p (record {
-          answer = Passed;
-          progress = record { length = now.length; marks = set now.marks m now.length };
-        }) events
+        → StepsIn (Mark m) events p (Ok (record { length = now.length; marks = set now.marks m now.length })) events
     unfolding step_fault done held_by progress_of
     mark_done m h =
         let n = length_read p in
@@ -134,7 +131,7 @@ module _ (events : List ℕ) (p : Progress) (whole : length events ≡ max_token
       code_at = rw e (map_at (cleared_beyond (length_read p)) p.marks m 0 unset_code (omega (arith, eight, h)))
 
       pub return_unset : now.length < get_or now.marks m 0
-          → StepsIn (Return m) events p (record { answer = Refused MarkNotSet; progress = p }) events
+          → StepsIn (Return m) events p (Err MarkNotSet) events
       unfolding step_fault held_by
       return_unset u =
           let unset : read_mark (length_read p) (get_or p.marks m unset_code) ≡ none
@@ -143,7 +140,7 @@ module _ (events : List ℕ) (p : Progress) (whole : length events ≡ max_token
 
       pub return_done : get_or now.marks m 0 ≤ now.length → {marks : List ℕ}
           → marks ≡ map (cleared_beyond (get_or now.marks m 0)) now.marks
-          → StepsIn (Return m) events p (record { answer = Passed; progress = record { length = get_or now.marks m 0; marks = marks } }) events
+          → StepsIn (Return m) events p (Ok (record { length = get_or now.marks m 0; marks = marks })) events
       unfolding step_fault done held_by progress_of
       return_done l c =
           let n = length_read p in
@@ -161,10 +158,10 @@ module _ (events : List ℕ) (p : Progress) (whole : length events ≡ max_token
 
 -- a number of no mark
 module _ (events : List ℕ) (p : Progress) (m : ℕ) (h : mark_count ≤ m) where
-  pub mark_unknown : StepsIn (Mark m) events p (record { answer = Refused UnknownMark; progress = p }) events
+  pub mark_unknown : StepsIn (Mark m) events p (Err UnknownMark) events
   unfolding step_fault
   mark_unknown = step_refused (Mark m) events p UnknownMark (rw (le-leb mark_count m h))
 
-  pub return_unknown : StepsIn (Return m) events p (record { answer = Refused UnknownMark; progress = p }) events
+  pub return_unknown : StepsIn (Return m) events p (Err UnknownMark) events
   unfolding step_fault
   return_unknown = step_refused (Return m) events p UnknownMark (rw (le-leb mark_count m h))

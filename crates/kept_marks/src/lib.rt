@@ -8,7 +8,7 @@ ghost use Rattle.kept_marks.specs.inner.Stored.{cleared_beyond};
 ghost use Rattle.kept_marks.specs.Stored.{progress_of};
 ghost use Rattle.kept_marks.specs.Properties.{Reads, Moves};
 
-use answer::{Answer, Error};
+use answer::Error;
 use grammar::limits::TOKENS;
 
 pub const MARKS: usize = 8;
@@ -26,17 +26,11 @@ pub struct Progress {
     pub marks: [u16; MARKS],
 }
 
-#[derive(Drop)]
-pub struct Moved {
-    pub answer: Answer,
-    pub progress: Progress,
-}
-
 // The length that a value tells: at most the limit.
 pub fn bounded(length: u16) -> u16
     ensures { result ≡ min length max_tokens }
 {
-    if length <= LIMIT { length } else { LIMIT }
+    length.min(LIMIT)
 }
 
 fn cleared(mark: u16, length: u16) -> u16
@@ -46,19 +40,17 @@ fn cleared(mark: u16, length: u16) -> u16
 }
 
 // Those beyond a length are cleared.
-fn all_cleared(marks: [u16; MARKS], length: u16) -> [u16; MARKS]
+fn all_cleared(mut marks: [u16; MARKS], length: u16) -> [u16; MARKS]
     ensures { result ≡ map (cleared_beyond length) marks }
 {
-    let mut within = marks;
-    let mut at = 0;
-    while at < MARKS {
-        within[at] = cleared(within[at], length);
-        at = at + 1;
+    for mark in marks.iter_mut() {
+        *mark = cleared(*mark, length);
     }
-    within
+    marks
 }
 
 impl Progress {
+    #[tactic(auto, unfolding(crate::specs::Stored::progress_of, crate::specs::Stored::values_of))]
     pub fn new() -> Progress
         ensures { result ≡ progress_of empty_input }
     {
@@ -73,56 +65,37 @@ impl Progress {
         ensures { Reads self result }
     {
         let length = bounded(self.length);
-        let old = self.marks;
-        let marks = all_cleared(old, length);
+        let marks = all_cleared(self.marks, length);
         Progress { length, marks }
     }
 
     // Notes the length.
-    pub fn mark(self, mark: u32) -> Moved
+    pub fn mark(self, mark: u32) -> Result<Progress, Error>
         ensures { Moves (Mark mark) self result }
     {
         let at = mark as usize;
         if MARKS <= at {
-            return Moved {
-                answer: Answer::Refused(Error::UnknownMark),
-                progress: self,
-            };
+            return Err(Error::UnknownMark);
         }
-        let now = self.read();
-        let length = now.length;
-        let mut marks = now.marks;
-        marks[at] = length;
-        Moved {
-            answer: Answer::Passed,
-            progress: Progress { length, marks },
-        }
+        let mut now = self.read();
+        now.marks[at] = now.length;
+        Ok(now)
     }
 
     // Cuts the input where the mark was set.
-    pub fn return_to(self, mark: u32) -> Moved
+    pub fn return_to(self, mark: u32) -> Result<Progress, Error>
         ensures { Moves (Return mark) self result }
     {
         let at = mark as usize;
         if MARKS <= at {
-            return Moved {
-                answer: Answer::Refused(Error::UnknownMark),
-                progress: self,
-            };
+            return Err(Error::UnknownMark);
         }
         let now = self.read();
-        let set = now.marks;
-        let length = set[at];
+        let length = now.marks[at];
         if now.length < length {
-            return Moved {
-                answer: Answer::Refused(Error::MarkNotSet),
-                progress: self,
-            };
+            return Err(Error::MarkNotSet);
         }
-        let marks = all_cleared(set, length);
-        Moved {
-            answer: Answer::Passed,
-            progress: Progress { length, marks },
-        }
+        let marks = all_cleared(now.marks, length);
+        Ok(Progress { length, marks })
     }
 }

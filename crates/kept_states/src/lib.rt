@@ -7,10 +7,10 @@ ghost use Rattle.kept_input.specs.Held.{kept_input};
 ghost use Rattle.embed_promises.specs.Kept.{state_of, progress_in, AddExported, MoveExported};
 ghost use Rattle.embed_promises.specs.inner.Kept.{StateRead, WrittenBack};
 
-use answer::Answer;
+use answer::{Answer, Error};
 use grammar::limits::TOKENS;
 use kept_input::{KeptInput, add_event};
-use kept_marks::{MARKS, Moved, Progress};
+use kept_marks::{MARKS, Progress};
 use packing::{PASSED, pack};
 
 pub const STATE: usize = MARKS + 1;
@@ -44,56 +44,50 @@ fn state_of(progress: Progress) -> [u16; STATE]
 }
 
 // Writes the state that a step leaves, unless it is refused, and gives its answer packed.
-fn write_back(moved: Moved, state: &mut [u16; STATE]) -> u64
-    ensures { WrittenBack moved state.old result state.new }
+#[tactic(auto, unfolding(embed_promises::specs::Packing::packed))]
+fn write_back(step: Result<Progress, Error>, state: &mut [u16; STATE]) -> u64
+    ensures { WrittenBack step state.old result state.new }
 {
-    let answer = moved.answer;
-    let Answer::Passed = answer else {
-        return pack(answer);
-    };
-    let next = moved.progress;
-    let new = state_of(next);
-    *state = new;
-    PASSED
+    match step {
+        Ok(next) => {
+            *state = state_of(next);
+            PASSED
+        }
+        Err(error) => pack(Answer::Refused(error)),
+    }
 }
 
 // Each step reads the state, and writes what it leaves.
 pub fn add_event_in(events: &mut [u8; TOKENS], state: &mut [u16; STATE], event: u8) -> u64
     ensures { AddExported event events.old state.old result events.new state.new }
 {
-    let old = *state;
-    let progress = progress_in(old);
-    let moved = add_event(events, progress, event);
-    write_back(moved, state)
+    let progress = progress_in(*state);
+    let step = add_event(events, progress, event);
+    write_back(step, state)
 }
 
 pub fn mark_in(state: &mut [u16; STATE], mark: u32) -> u64
     ensures { MoveExported (Mark mark) state.old result state.new }
 {
-    let old = *state;
-    let progress = progress_in(old);
-    let moved = progress.mark(mark);
-    write_back(moved, state)
+    let progress = progress_in(*state);
+    let step = progress.mark(mark);
+    write_back(step, state)
 }
 
 pub fn return_in(state: &mut [u16; STATE], mark: u32) -> u64
     ensures { MoveExported (Return mark) state.old result state.new }
 {
-    let old = *state;
-    let progress = progress_in(old);
-    let moved = progress.return_to(mark);
-    write_back(moved, state)
+    let progress = progress_in(*state);
+    let step = progress.return_to(mark);
+    write_back(step, state)
 }
 
 // The log as it stands there.
 pub fn kept_in(events: &[u8; TOKENS], state: &[u16; STATE]) -> KeptInput
     ensures { result ≡ kept_input events.now (progress_in state.now) }
 {
-    let stored = *state;
-    let progress = progress_in(stored);
-    let stored_events = *events;
     KeptInput {
-        events: stored_events,
-        progress,
+        events: *events,
+        progress: progress_in(*state),
     }
 }

@@ -1,7 +1,7 @@
 // What each nonterminal left-reaches, by what is at the left of its rules: through one nonterminal after the other (Warshall).
 #![tactic(auto)]
 
-ghost use Rattle.std.specs.Prelude.{◌≡◌, ◌<◌, min, length};
+ghost use Rattle.std.specs.Prelude.{◌≡◌, ◌<◌, min};
 ghost use Rattle.grammar.specs.Limits.{max_nonterminals};
 ghost use Rattle.families.specs.inner.Reach.{extended, through, closure};
 
@@ -20,8 +20,9 @@ fn extend(set: Nonterminals, via: u32, beyond: Nonterminals) -> Nonterminals
 }
 
 // Each set goes on through one nonterminal. Most have nothing beyond them.
+#[tactic(auto, using(families::proofs::Through::through_none, families::proofs::Through::walked_all))]
 fn go_through(sets: &mut [u32; SETS], via: u32)
-    requires { (via < max_nonterminals) × (length sets.old ≡ max_nonterminals) }
+    requires { via < max_nonterminals }
     ensures { sets.new ≡ through via sets.old }
 {
     let bits = sets[via as usize];
@@ -29,24 +30,19 @@ fn go_through(sets: &mut [u32; SETS], via: u32)
         return;
     }
     let beyond = Nonterminals { bits };
-    let mut from = 0;
-    while from < SETS {
-        let set = Nonterminals { bits: sets[from] };
-        sets[from] = extend(set, via, beyond).bits;
-        from = from + 1;
+    for bits in sets.iter_mut() {
+        let set = Nonterminals { bits: *bits };
+        *bits = extend(set, via, beyond).bits;
     }
 }
 
 // Each set goes on through all nonterminals.
-pub fn closed(sets: [u32; SETS], nonterminals: u32) -> [u32; SETS]
+#[tactic(auto, using(families::proofs::Closure::closure_next), unfolding(families::specs::inner::Reach::closure))]
+pub fn closed(mut sets: [u32; SETS], nonterminals: u32) -> [u32; SETS]
     ensures { result ≡ closure (min nonterminals max_nonterminals) sets }
 {
-    let all = at_most(nonterminals);
-    let mut reached = sets;
-    let mut via = 0;
-    while via < all {
-        go_through(&mut reached, via);
-        via = via + 1;
+    for via in 0..at_most(nonterminals) {
+        go_through(&mut sets, via);
     }
-    reached
+    sets
 }

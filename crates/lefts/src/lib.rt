@@ -68,15 +68,7 @@ fn inside_left(word: Word, left: Left, firsts: &[u64; SETS], lookahead: Lookahea
             body: symbol_left(symbol, body, firsts, lookahead),
             rule,
         },
-        Word::Positive => ended(body, rule),
-        Word::Negative => ended(body, rule),
-        Word::End => ended(body, rule),
-        Word::Rule(_) => ended(body, rule),
-        Word::Heading {
-            nonterminals: _,
-            terminals: _,
-        } => ended(body, rule),
-        Word::Invalid => ended(body, rule),
+        _ => ended(body, rule),
     }
 }
 
@@ -86,11 +78,8 @@ pub fn rule_left(words: &[u32], firsts: &[u64; SETS], lookahead: Lookahead) -> N
         (lefts 0 0) words.now).rule.bits }
 {
     let mut left = no_left();
-    let mut at = words.len();
-    while 0 < at {
-        at = at - 1;
-        let word = decode(words[at]);
-        left = inside_left(word, left, firsts, lookahead);
+    for &bits in words.iter().rev() {
+        left = inside_left(decode(bits), left, firsts, lookahead);
     }
     left.rule
 }

@@ -1,11 +1,13 @@
 -- The loops that lay out the words: what sizes they run with, what one turn does, and what is lent when they end.
-use mathlib.Core.Path.{◌≡◌, sym, ap, ◌∙◌}
+use Rattle.std.specs.Prelude.{Err, Ok, Result}
+use Rattle.answer.specs.declared.Error.{Error}
+use mathlib.Core.Path.{◌≡◌, refl, sym, ap, ◌∙◌}
 use mathlib.Core.List.{List, ◌++◌}
 use Prim.Native.Nat.{ℕ, suc, ◌+◌, ◌%◌, ◌^◌, ◌≤◌, ◌<◌}
 use native.Mathlib.Decide.{dec_lt}
 use native.Mathlib.Nat.{mul-le-mul}
 use native.Mathlib.Omega.{arith}
-use lib.ListN.{length, take, drop, set, replicate, length-append}
+use lib.ListN.{length, take, drop, set, replicate}
 use lib.Seq.{take_all, take_at}
 use borrow.Author.Tests.{lt-ltb, le-ltb}
 use Rattle.grammar.specs.Codes.{no_entry}
@@ -14,8 +16,6 @@ use Rattle.grammar.specs.declared.reading.Sizes.{Sizes}
 use Rattle.lookahead.specs.declared.Lookahead.{Lookahead}
 use Rattle.lookahead.specs.declared.Lookahead.TheVariants.{One, Two}
 use Rattle.base.specs.Lists.{listed}
-use Rattle.families.specs.declared.Finding.{Finding}
-use Rattle.families.specs.declared.Finding.TheVariants.{Passed, Refused}
 use Rattle.base.proofs.Lists.{listed_long, listed_at}
 use Rattle.columns.specs.Columns.{column_count}
 use Rattle.table_promises.specs.Layout.{table_room}
@@ -27,12 +27,12 @@ none_few : SizesGiven no_sizes
 none_few = record { few_nonterminals = omega arith; few_terminals = omega arith }
 
 -- the sizes of a table that is lent are within the limits
-lent_few : (f : Finding) → SizesGiven (lent_sizes f)
+lent_few : (f : Result Sizes Error) → SizesGiven (lent_sizes f)
 unfolding lent_sizes
-lent_few (Refused e) = none_few
-lent_few (Passed z) = go (dec_lt max_nonterminals z.nonterminals) (dec_lt max_terminals z.terminals)
+lent_few (Err e) = none_few
+lent_few (Ok z) = go (dec_lt max_nonterminals z.nonterminals) (dec_lt max_terminals z.terminals)
   where
-    go : Dec (max_nonterminals < z.nonterminals) → Dec (max_terminals < z.terminals) → SizesGiven (lent_sizes (Passed z))
+    go : Dec (max_nonterminals < z.nonterminals) → Dec (max_terminals < z.terminals) → SizesGiven (lent_sizes (Ok z))
     go (yes h) (yes i) = rw (lt-ltb max_nonterminals z.nonterminals h) none_few
     go (yes h) (no i) = rw (lt-ltb max_nonterminals z.nonterminals h) none_few
     go (no h) (yes i) = rw (le-ltb max_nonterminals z.nonterminals (omega arith), lt-ltb max_terminals z.terminals i) none_few
@@ -40,11 +40,11 @@ lent_few (Passed z) = go (dec_lt max_nonterminals z.nonterminals) (dec_lt max_te
         rw (le-ltb max_nonterminals z.nonterminals (omega arith), le-ltb max_terminals z.terminals (omega arith))
         (record { few_nonterminals = omega arith; few_terminals = omega arith })
 
-pub lent_given : (f : Finding) {z : Sizes} → z ≡ lent_sizes f → SizesGiven z
+pub lent_given : (f : Result Sizes Error) {z : Sizes} → z ≡ lent_sizes f → SizesGiven z
 lent_given f e = rw e (lent_few f)
 
 -- and sizes within them are lent
-pub lent_sizes_lem : (z : Sizes) → SizesGiven z → lent_sizes (Passed z) ≡ z
+pub lent_sizes_lem : (z : Sizes) → SizesGiven z → lent_sizes (Ok z) ≡ z
 unfolding lent_sizes
 lent_sizes_lem z g = rw (le-ltb max_nonterminals z.nonterminals g.few_nonterminals, le-ltb max_terminals z.terminals g.few_terminals)
 
@@ -95,16 +95,10 @@ made_up_lem z firsts follows entries =
     take_at (laid One z firsts follows entries) (drop (word_count One z) (replicate max_table_words no_entry)) (word_count One z)
     (laid_long One z firsts follows entries)
 
-made_long : (z : Sizes) (firsts follows entries : List ℕ) → word_count One z ≤ length (made_up z firsts follows entries)
-unfolding made_up
-made_long z firsts follows entries =
-    let rest = drop (word_count One z) (replicate max_table_words no_entry) in
-    omega (arith, length-append (laid One z firsts follows entries) rest, laid_long One z firsts follows entries)
-
-pub made_room : (z : Sizes) (firsts follows entries : List ℕ) {words : List ℕ} {n i : ℕ} → words ≡ made_up z firsts follows entries → n ≡ word_count One z
-    → i < n
-    → i < length words
-made_room z firsts follows entries w e h = omega (arith, ap length w, made_long z firsts follows entries)
+pub words_copied : (z : Sizes) (firsts follows entries before : List ℕ) {n : ℕ} {words copied : List ℕ} → n ≡ word_count One z
+    → words ≡ made_up z firsts follows entries → copied ≡ take n words
+    → copied ++ drop n before ≡ laid One z firsts follows entries ++ drop (word_count One z) before
+words_copied z firsts follows entries before e w t = rw (t, w, e, made_up_lem z firsts follows entries) refl
 
 -- the loop over the words has ended
 module _ (z : Sizes) (firsts follows entries : List ℕ) {n at : ℕ} {table : List ℕ} (within : at ≤ n) (ended : n ≤ at) where
@@ -116,19 +110,9 @@ module _ (z : Sizes) (firsts follows entries : List ℕ) {n at : ℕ} {table : L
       let d : at ≡ word_count One z = omega arith in
       t ∙ rw (d, e) (front_all (word_count One z) (λ i. table_word_at z.nonterminals firsts follows entries i % 2 ^ 32) (replicate max_table_words no_entry))
 
-  module _ (before : List ℕ) (room : n ≤ length before) where
-    pub lent_copied : {words : List ℕ} → n ≡ word_count One z → words ≡ made_up z firsts follows entries → table ≡ front words at before
-        → table ≡ lent_by One z firsts follows entries before
-    lent_copied {words} e w t =
-        let d : at ≡ word_count One z = omega arith in
-        let l : take (word_count One z) words ≡ laid One z firsts follows entries = ap (take (word_count One z)) w ∙ made_up_lem z firsts follows entries in
-        t ∙ ap (λ i. front words i before) d ∙ ap (λ x. x ++ drop (word_count One z) before) l
-        ∙ sym (lent_long One z firsts follows entries before (omega arith))
-
-    pub lent_written : n ≡ word_count Two z → table ≡ front (listed n (table_word_at z.nonterminals firsts follows entries)) at before
-        → table ≡ lent_by Two z firsts follows entries before
-    unfolding laid
-    lent_written e t =
-        let d : at ≡ word_count Two z = omega arith in
-        t ∙ rw (d, e) (front_all (word_count Two z) (table_word_at z.nonterminals firsts follows entries) before)
-        ∙ sym (lent_long Two z firsts follows entries before (omega arith))
+  pub words_written : (before : List ℕ) → n ≡ word_count Two z → table ≡ front (listed n (table_word_at z.nonterminals firsts follows entries)) at before
+      → table ≡ laid Two z firsts follows entries ++ drop (word_count Two z) before
+  unfolding laid
+  words_written before e t =
+      let d : at ≡ word_count Two z = omega arith in
+      t ∙ rw (d, e) (front_all (word_count Two z) (table_word_at z.nonterminals firsts follows entries) before)

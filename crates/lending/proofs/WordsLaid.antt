@@ -1,4 +1,5 @@
 -- The words that are laid out from the sets and the entries of a grammar are those of its table.
+use Rattle.std.specs.Prelude.{Err, Ok}
 use mathlib.Core.Path.{◌≡◌, refl, sym, ap, ◌∙◌}
 use mathlib.Core.Bool.{Bool, true, false}
 use mathlib.Core.List.{List, ◌++◌}
@@ -27,7 +28,6 @@ use Rattle.semantics.specs.FirstFollow.{first, follow}
 use Rattle.semantics.proofs.descent.Outcomes.{nth_below}
 use Rattle.semantics.proofs.families.Positions.{position_some}
 use Rattle.answer.specs.declared.Error.{Error}
-use Rattle.families.specs.declared.Finding.TheVariants.{Passed, Refused}
 use Rattle.families.proofs.FewTerminals.{admitted_read}
 use Rattle.table.specs.declared.Found.{Found}
 use Rattle.base.specs.Lists.{listed}
@@ -170,7 +170,7 @@ module _ {k : Lookahead} {words : List ℕ} {z : Sizes} {r : Found} (f : FoundEn
   unfolding laid as_stored
   laid_table = listed_table (table_words k G) (word_count k z) as_stored counted each
 
-  pub lent_table : (before : List ℕ) → table_room k ≤ length before → r.finding ≡ Passed z
+  pub lent_table : (before : List ℕ) → table_room k ≤ length before → r.finding ≡ Ok z
       → lent_of k r before ≡ table_words k G ++ drop (length (table_words k G)) before
   lent_table before room p =
       rw (p, lent_sizes_lem z given)
@@ -182,7 +182,7 @@ unfolding lent_by laid listed
 none_lent One firsts follows entries before = rw (le-ltb (length before) 0 (omega arith)) refl
 none_lent Two firsts follows entries before = rw (le-ltb (length before) 0 (omega arith)) refl
 
-pub lent_nothing : (k : Lookahead) (r : Found) (before : List ℕ) {x : Error} → r.finding ≡ Refused x → lent_of k r before ≡ before
+pub lent_nothing : (k : Lookahead) (r : Found) (before : List ℕ) {x : Error} → r.finding ≡ Err x → lent_of k r before ≡ before
 unfolding lent_sizes
 lent_nothing k r before p =
     ap (λ y. lent_by k (lent_sizes y) r.firsts r.follows r.entries before) p ∙ none_lent k r.firsts r.follows r.entries before

@@ -5,33 +5,34 @@ ghost use Rattle.std.specs.Prelude.{◌≡◌};
 ghost use Rattle.promises.specs.inner.Lengths.{with_search};
 
 use answer::Error;
-use families::Finding;
 use grammar::limits::{MEMO_ENTRIES, TOKENS};
+use grammar::reading::Sizes;
 use inputs::{INPUTS, count_inputs};
 
 // With a lent memo table and a lent log of so many entries and bytes: that they are long enough, that the length is not too great, and that there
 // are not too many inputs of it.
 #[tactic(auto, using(inputs::proofs::Counting::count_over, inputs::proofs::Counting::count_few))]
-pub fn with_length(finding: Finding, tokens: usize, log: usize, memo: usize) -> Finding
+pub fn with_length(
+    finding: Result<Sizes, Error>,
+    tokens: usize,
+    log: usize,
+    memo: usize,
+) -> Result<Sizes, Error>
     ensures { result ≡ with_search log memo finding tokens }
 {
     if memo < MEMO_ENTRIES {
-        return Finding::Refused(Error::MemoTooShort);
+        return Err(Error::MemoTooShort);
     }
     if log < TOKENS {
-        return Finding::Refused(Error::BufferTooShort);
+        return Err(Error::BufferTooShort);
     }
-    match finding {
-        Finding::Refused(_) => finding,
-        Finding::Passed(sizes) => {
-            if TOKENS < tokens {
-                return Finding::Refused(Error::InputTooLong);
-            }
-            let inputs = count_inputs(sizes.terminals, tokens);
-            if INPUTS < inputs {
-                return Finding::Refused(Error::TooManyInputs);
-            }
-            finding
-        }
+    let sizes = finding?;
+    if TOKENS < tokens {
+        return Err(Error::InputTooLong);
     }
+    let inputs = count_inputs(sizes.terminals, tokens);
+    if INPUTS < inputs {
+        return Err(Error::TooManyInputs);
+    }
+    Ok(sizes)
 }

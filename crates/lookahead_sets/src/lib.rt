@@ -11,12 +11,13 @@ use lookahead::{Lookahead, alphabet, nothing, single};
 const WIDTH: u32 = 64;
 
 // A set of strings; element l weighs 2^l (document 01: event set).
-#[derive(Clone, Copy)]
+#[derive(Clone, Copy, PartialEq, Eq)]
 pub struct LookaheadSet {
     pub bits: u64,
 }
 
 impl LookaheadSet {
+    #[tactic(auto, using(lookahead::proofs::Operations::is_empty_lem))]
     pub fn empty() -> LookaheadSet
         ensures { Empty result.bits }
     {
@@ -24,6 +25,7 @@ impl LookaheadSet {
     }
 
     // Nothing alone.
+    #[tactic(auto, using(crate::proofs::SingleElements::end_is))]
     pub fn end(lookahead: Lookahead) -> LookaheadSet
         ensures { End lookahead result.bits }
     {
@@ -46,16 +48,14 @@ impl LookaheadSet {
     }
 
     // Whether an element is in the set.
+    #[tactic(auto, unfolding(lookahead::specs::Elements::has))]
     pub fn contains(self, element: u32) -> bool
         ensures { result ≡ has self.bits element }
     {
-        if element < WIDTH {
-            self.bits >> element & 1 == 1
-        } else {
-            false
-        }
+        element < WIDTH && self.bits >> element & 1 == 1
     }
 
+    #[tactic(auto, unfolding(lookahead::specs::inner::Operations::is_empty))]
     pub fn is_empty(self) -> bool
         ensures { result ≡ is_empty self.bits }
     {
@@ -63,6 +63,7 @@ impl LookaheadSet {
     }
 
     // The elements of either set.
+    #[tactic(auto, using(lookahead::proofs::Operations::is_join), unfolding(lookahead::specs::inner::Operations::join))]
     pub fn join(self, other: LookaheadSet) -> LookaheadSet
         ensures { Joined self.bits other.bits result.bits }
     {
@@ -72,6 +73,7 @@ impl LookaheadSet {
     }
 
     // The elements of both sets.
+    #[tactic(auto, using(lookahead::proofs::Operations::is_meet), unfolding(lookahead::specs::inner::Operations::meet))]
     pub fn meet(self, other: LookaheadSet) -> LookaheadSet
         ensures { SetsMet self.bits other.bits result.bits }
     {
@@ -81,9 +83,10 @@ impl LookaheadSet {
     }
 
     // How many elements the set has.
+    #[tactic(auto, using(lookahead::proofs::Size::ones_size))]
     pub fn size(self) -> u32
         ensures { result ≡ size self.bits }
     {
-        u64::count_ones(self.bits)
+        self.bits.count_ones()
     }
 }

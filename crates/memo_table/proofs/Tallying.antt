@@ -9,7 +9,8 @@ use native.Mathlib.Omega.{arith}
 use lib.Arith.{digits_lt}
 use lib.Dec.{T}
 use borrow.Author.Tests.{eq-eqb, ne_eqb}
-use lib.ListN.{length, get_or, length-append}
+use lib.ListN.{length, get_or, take, drop, length-append, get_or-append}
+use Rattle.std.proofs.lemmas.List.{get_or_default, get_or-append-add, length-take-le, take-append-drop}
 use Rattle.answer.specs.declared.Calls.{Calls}
 use Rattle.grammar.specs.Codes.{uncalled_code}
 use Rattle.grammar.specs.Syntax.{Grammar}
@@ -21,10 +22,9 @@ use Rattle.semantics.specs.Calls.{all_calls, call_count, greatest_place, farthes
 use Rattle.semantics.specs.Memo.{Memo, Recorded, written}
 use Rattle.base.proofs.Booleans.{T_true}
 use Rattle.base.proofs.FiniteSets.{keep_make, keep_elim, numbers_make, numbers_elim, combine_make, combine_elim}
-use Rattle.base.proofs.Quantified.{below_make, below_elim, one_le, count_le}
+use Rattle.base.proofs.Quantified.{below_make, below_elim, count_le}
 use Rattle.memo_table.specs.inner.Tally.{tally_of, records, records_at, recorded_below, written_among, recorded_calls, recorded_tally, called_at, RowsGiven}
 use Rattle.memo_table.proofs.JoinedLists.{keep_append, keep_one, numbers_more, combine_more}
-use Rattle.memo_table.proofs.Entries.{get_d_any}
 
 greatest_most : (l : List Call) (x : Call) → Memᴰ x l → x.place ≤ greatest_place l
 unfolding greatest_place
@@ -50,16 +50,34 @@ module _ (m : Memo) where
   pub count_more : {k : ℕ} (i : ℕ) → i < length m → k ≡ one (records (get_or m i 0)) → recorded_below m i + k ≡ recorded_below m (i + 1)
   count_more {k} i h e =
       let s : i + 1 ≡ suc i = omega arith in
-      let same : k ≡ one (records_at m i) = e ∙ ap (λ x. one (records x)) (get_d_any m i 0 uncalled_code h) in
+      let same : k ≡ one (records_at m i) = e ∙ ap (λ x. one (records x)) (get_or_default m i 0 uncalled_code h) in
       rw (s, same) (count_next i)
 
   pub count_bound : (n : ℕ) → recorded_below m n ≤ n
   unfolding recorded_below
   count_bound n = count_le n (records_at m)
 
--- an entry is counted at most once
-pub one_bound : {k : ℕ} (entry : ℕ) → k ≡ one (records entry) → k ≤ 1
-one_bound entry e = omega (arith, one_le (records entry))
+-- the entries of two tables, one behind the other
+module _ (m m' : Memo) where
+  count_front : (n : ℕ) → n ≤ length m → recorded_below (m ++ m') n ≡ recorded_below m n
+  unfolding recorded_below count_below
+  count_front zero h = refl
+  count_front (suc n) h = rw (get_or-append m m' uncalled_code n h, count_front n (omega arith)) refl
+
+  count_behind : (n : ℕ) → recorded_below (m ++ m') (length m + n) ≡ recorded_below m (length m) + recorded_below m' n
+  unfolding recorded_below count_below
+  count_behind zero = let e : length m + 0 ≡ length m = omega arith in rw e (omega (arith, count_front (length m) (omega arith)))
+  count_behind (suc n) =
+      let e : length m + suc n ≡ suc (length m + n) = omega arith in
+      rw (e, get_or-append-add m m' n uncalled_code) (omega (arith, count_behind n))
+
+  pub count_append : recorded_below (m ++ m') (length (m ++ m')) ≡ recorded_below m (length m) + recorded_below m' (length m')
+  count_append = rw (length-append m m') (count_behind (length m'))
+
+-- the first entries of a table
+pub count_take : (m : Memo) (n : ℕ) → n ≤ length m → recorded_below (take n m) (length (take n m)) ≡ recorded_below m n
+count_take m n h =
+    rw (length-take-le n m h, ← count_front (take n m) (drop n m) n (omega (arith, length-take-le n m h)), take-append-drop n m) refl
 
 module _ (m : Memo) (tokens : ℕ) where
   abbrev kept : List Call → List Call
@@ -106,7 +124,7 @@ module _ (m : Memo) (tokens : ℕ) where
       entry_same : get_or m (A * (tokens + 1) + i) 0 ≡ get_or m (A * suc tokens + i) uncalled_code
       entry_same =
           let e : A * (tokens + 1) + i ≡ A * suc tokens + i = omega arith in
-          get_d_any m (A * (tokens + 1) + i) 0 uncalled_code (omega (arith, row_within h g, g.placed)) ∙ ap (λ j. get_or m j uncalled_code) e
+          get_or_default m (A * (tokens + 1) + i) 0 uncalled_code (omega (arith, row_within h g, g.placed)) ∙ ap (λ j. get_or m j uncalled_code) e
 
       -- a call at the place is found, or not yet
       pub called_here : (get_or m (A * (tokens + 1) + i) 0 ≡ uncalled_code → ⊥) → true ≡ called_at m N tokens i

@@ -23,6 +23,7 @@ fn join(verdict: u8, code: u64, position: u64, count: u64, farthest: u64) -> u64
 }
 
 // The numbers of the library's answers lose nothing by it.
+#[tactic(auto, unfolding(embed_promises::specs::Packing::packed))]
 pub fn pack(answer: Answer) -> u64
     ensures { result ≡ packed (cut (numbers answer)) }
 {

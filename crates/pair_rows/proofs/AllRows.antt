@@ -5,7 +5,7 @@ use mathlib.Core.Logic.{◌⊎◌, inl, inr}
 use Prim.Native.Nat.{ℕ, suc, ◌+◌, ◌-◌, ◌*◌, ◌/◌, ◌%◌, ◌^◌, ◌≤◌, ◌<◌}
 use native.Mathlib.Nat.{mul_assoc, mul-le-mul}
 use native.Mathlib.Omega.{arith}
-use lib.Bits.{bit_and, bit_or, and_le_r}
+use lib.Bits.{bit_and, bit_or}
 use lib.Dec.{T, eqb, eqb→eq}
 use lib.Pow.{shl_exact}
 use Rattle.base.specs.Quantifiers.{one, any_below}
@@ -210,7 +210,3 @@ module _ (x y f : ℕ) (firsts : Has f (λ l. is_single l && begins y (l - 1))) 
             | inl u ↦ or_l (has (places * tokens * 2 ^ 8) c) (has kept_alone c) u
             | inr u ↦ or_r (has (places * tokens * 2 ^ 8) c) (has kept_alone c) u
           ]
-
--- what is kept fits
-pub ends_fit : (x y : ℕ) {m : ℕ} → m ≤ 1 → alone x * bit_and y m < 2 ^ width
-ends_fit x y {m} h = let p = mul-le-mul (and_le_r x singles) (and_le_r y m) in omega (arith, p)

@@ -18,6 +18,7 @@ const ROW_STARTS: u64 = 0x81020408102;
 const ROW_ENDS: u64 = 0x102040810204000;
 
 // What the strings begin with, each terminal alone. That a row has a pair is moved up to its last one, and from there side by side.
+#[tactic(auto, using(crate::proofs::FirstTokens::firsts_are))]
 fn firsts(set: LookaheadSet) -> LookaheadSet
     ensures { Has result.bits (λ l. is_single l && begins set.bits (l - 1)) }
 {

@@ -1,4 +1,5 @@
 -- Which errors an input can give, and where: what holds of each of them holds of the one that is given.
+use Rattle.std.specs.Prelude.{Some}
 use mathlib.Core.Bool.{Bool, true, false}
 use mathlib.Core.List.{List, [], ◌∷◌}
 use Prim.Native.Nat.{ℕ, suc, ◌+◌, ◌≤◌, ◌<◌}
@@ -11,7 +12,6 @@ use Rattle.answer.specs.declared.Error.TheVariants.{InputTooLong, UnknownToken}
 use Rattle.answer.specs.Faults.{fault_if}
 use Rattle.answer.proofs.Faults.{fault_none, OfFault, of_none, of_some, of_if, EachFault}
 use Rattle.base.specs.Choice.{choose}
-use Rattle.event.specs.declared.Unknown.TheVariants.{At}
 use Rattle.event.specs.Unknown.{unknown_from, unknown_fault}
 use Rattle.grammar.specs.Limits.{max_tokens}
 
@@ -26,7 +26,7 @@ module _ {P : Error → Type 0} (each : InputErrors P) where
   unknown_each n at [] h = of_none P
   unknown_each n at (a ∷ w) h = go (ltb a n) (unknown_each n (suc at) w (omega arith))
     where
-      go : (b : Bool) → OfFault P (unknown_fault (unknown_from n (suc at) w)) → OfFault P (unknown_fault (choose b (unknown_from n (suc at) w) (At at)))
+      go : (b : Bool) → OfFault P (unknown_fault (unknown_from n (suc at) w)) → OfFault P (unknown_fault (choose b (unknown_from n (suc at) w) (Some at)))
       go true later = later
       go false later = of_some P (UnknownToken at) (each.unknown_token at (omega arith))
 

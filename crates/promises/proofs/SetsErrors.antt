@@ -1,4 +1,6 @@
 -- Which errors words can give before a table is made, and where: what holds of each of them holds of the one that is given.
+use Rattle.std.specs.Prelude.{Err, Ok, Result}
+use Rattle.grammar.specs.declared.reading.Sizes.{Sizes}
 use mathlib.Core.Path.{◌≡◌, refl}
 use mathlib.Core.List.{List, ◌++◌}
 use mathlib.Core.Option.{Option, none, some}
@@ -12,8 +14,6 @@ use Rattle.grammar.specs.Limits.{max_words, max_nonterminals}
 use Rattle.grammar.specs.Syntax.{Grammar}
 use Rattle.grammar.specs.Encoding.{grammar_of}
 use Rattle.grammar.specs.Reading.{reading}
-use Rattle.grammar.specs.declared.reading.Reading.{Reading}
-use Rattle.grammar.specs.declared.reading.Reading.TheVariants.{Read, Faulty}
 use Rattle.grammar.proofs.WellRead.{well_read}
 use Rattle.encoding.specs.Encode.{sizes_of}
 use Rattle.encoding.specs.Diagnosis.{Diagnosis, long, heading, behind, encoding, WordFault, unexpected, out_of_range, too_many}
@@ -48,16 +48,16 @@ module _ {k : Lookahead} {P : Error → Type 0} (each : SetsErrors k P) where
   word_each {i = i} h (out_of_range a) = each.out_of_range i h
   word_each {i = i} h (too_many a) = each.too_many_rules i h
 
-  diagnosis_each : {words : List ℕ} {o : Reading} → Diagnosis words o → OfOutcome P o
+  diagnosis_each : {words : List ℕ} {o : Result Sizes Error} → Diagnosis words o → OfOutcome P o
   diagnosis_each (long h) = of_faulty P Length each.long
   diagnosis_each (heading h f) = of_faulty P Heading each.heading
   diagnosis_each (behind {x = x} h b f w) = of_faulty P x (word_each (omega (arith, f.among)) w)
   diagnosis_each (encoding {G = G} h e) = of_read P (sizes_of G)
 
   -- admission
-  reading_fault_each : (o : Reading) → OfOutcome P o → OfFault P (reading_fault o)
-  reading_fault_each (Read z) r = of_none P
-  reading_fault_each (Faulty x) r = of_some P x (r x refl)
+  reading_fault_each : (o : Result Sizes Error) → OfOutcome P o → OfFault P (reading_fault o)
+  reading_fault_each (Ok z) r = of_none P
+  reading_fault_each (Err x) r = of_some P x (r x refl)
 
   admission_fault_each : (words : List ℕ) → OfFault P (reading_fault (admission k words))
   admission_fault_each words =

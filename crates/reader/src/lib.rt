@@ -1,81 +1,68 @@
 // Reading an encoded grammar: its first fault, or its sizes.
 #![tactic(auto)]
 
-ghost use Rattle.std.specs.Prelude.{◌≡◌, drop};
+ghost use Rattle.std.specs.Prelude.{◌≡◌};
 ghost use Rattle.grammar.specs.Encoding.{declared_by};
 ghost use Rattle.grammar.specs.Reading.{stepped, finished, fresh, scan, is_within, reading};
 
 use answer::Error;
 use grammar::limits::{NONTERMINALS, TERMINALS, WORDS};
-use grammar::reading::{Progress, Reading, Sizes, State, Step};
+use grammar::reading::{Progress, Sizes, State};
 use reading_steps::{after, allows, begins_rule, counted, in_range, row};
 use word::{Word, decode};
 
 // The word at an index: is it allowed, then is its number in range, then is there room for its rule.
-fn read_word(word: Word, progress: Progress, at: usize) -> Step
+fn read_word(word: Word, progress: Progress, at: usize) -> Result<Progress, Error>
     ensures { result ≡ stepped word progress at }
 {
     let state = progress.state;
     let sizes = progress.sizes;
     if !allows(word, state) {
-        return Step::Stop(Error::UnexpectedWord(at));
+        return Err(Error::UnexpectedWord(at));
     }
     if !in_range(word, sizes) {
-        return Step::Stop(Error::OutOfRange(at));
+        return Err(Error::OutOfRange(at));
     }
     let next = after(word, state);
     if begins_rule(word) {
         counted(next, sizes, at)
     } else {
-        Step::Go(Progress { state: next, sizes })
+        Ok(Progress { state: next, sizes })
     }
 }
 
-fn finish(progress: Progress, at: usize) -> Reading
+fn finish(progress: Progress, at: usize) -> Result<Sizes, Error>
     ensures { result ≡ finished progress at }
 {
     let state = progress.state;
     let sizes = progress.sizes;
     if row(state, false, false, false, false, true) {
-        Reading::Read(sizes)
+        Ok(sizes)
     } else {
-        Reading::Faulty(Error::UnexpectedWord(at))
+        Err(Error::UnexpectedWord(at))
     }
 }
 
-// The words behind the heading.
-fn read_rules(words: &[u32], sizes: Sizes) -> Reading
-    ensures { result ≡ scan (fresh sizes) 1 (drop 1 words.now) }
+// The words behind the heading: the first has the index 1.
+fn read_rules(words: &[u32], sizes: Sizes) -> Result<Sizes, Error>
+    ensures { result ≡ scan (fresh sizes) 1 words.now }
 {
     let mut progress = Progress {
         state: State::Before,
         sizes,
     };
-    let mut at = 1;
-    while at < words.len() {
-        let word = decode(words[at]);
-        let result = read_word(word, progress, at);
-        match result {
-            Step::Go(next) => {
-                progress = next;
-            }
-            Step::Stop(error) => {
-                return Reading::Faulty(error);
-            }
-        }
-        at = at + 1;
+    for (behind, bits) in words.iter().enumerate() {
+        let word = decode(*bits);
+        progress = read_word(word, progress, behind + 1)?;
     }
-    finish(progress, at)
+    finish(progress, words.len() + 1)
 }
 
 #[tactic(auto, unfolding(grammar::specs::Reading::is_within))]
 fn within(number: u32, limit: u32) -> bool
     ensures { result ≡ is_within number limit }
 {
-    if number == 0 {
-        return false;
-    }
-    number <= limit
+    0 < number && number <= limit
 }
 
 // What a heading declares; another word declares nothing.
@@ -87,11 +74,7 @@ pub fn declared(word: Word) -> Sizes
         terminals,
     } = word
     else {
-        return Sizes {
-            nonterminals: 0,
-            terminals: 0,
-            rules: 0,
-        };
+        return Sizes::default();
     };
     Sizes {
         nonterminals,
@@ -102,21 +85,21 @@ pub fn declared(word: Word) -> Sizes
 
 // The first fault of an encoded grammar, or its sizes.
 #[tactic(auto, using(grammar::proofs::Heading::reading_long, grammar::proofs::Heading::reading_empty))]
-pub fn read(words: &[u32]) -> Reading
+pub fn read(words: &[u32]) -> Result<Sizes, Error>
     ensures { result ≡ reading words.now }
 {
     if WORDS < words.len() {
-        return Reading::Faulty(Error::Length);
+        return Err(Error::Length);
     }
-    if words.len() == 0 {
-        return Reading::Faulty(Error::Heading);
-    }
-    let sizes = declared(decode(words[0]));
+    let Some((heading, rules)) = words.split_first() else {
+        return Err(Error::Heading);
+    };
+    let sizes = declared(decode(*heading));
     if !within(sizes.nonterminals, NONTERMINALS) {
-        return Reading::Faulty(Error::Heading);
+        return Err(Error::Heading);
     }
     if !within(sizes.terminals, TERMINALS) {
-        return Reading::Faulty(Error::Heading);
+        return Err(Error::Heading);
     }
-    read_rules(words, sizes)
+    read_rules(rules, sizes)
 }

@@ -6,7 +6,7 @@ ghost use Rattle.grammar.specs.Reading.{row as row_of, allows as allows_after, s
 
 use answer::Error;
 use grammar::limits::RULES;
-use grammar::reading::{Progress, Sizes, State, Step};
+use grammar::reading::{Progress, Sizes, State};
 use word::{Symbol, Word};
 
 // One row of a table whose columns are the states.
@@ -33,16 +33,12 @@ pub fn allows(word: Word, state: State) -> bool
     ensures { result ≡ allows_after word state }
 {
     match word {
-        Word::Rule(_) => row(state, true, false, true, true, false),
-        Word::Positive => row(state, false, true, true, false, false),
-        Word::Negative => row(state, false, true, true, true, false),
-        Word::Symbol(_) => row(state, false, false, true, true, false),
-        Word::End => row(state, true, false, true, true, false),
-        Word::Heading {
-            nonterminals: _,
-            terminals: _,
-        } => false,
-        Word::Invalid => false,
+        Word::Rule(_) => matches!(state, State::Before | State::InPositive | State::InNegative),
+        Word::Positive => matches!(state, State::Opened | State::InPositive),
+        Word::Negative => matches!(state, State::Opened | State::InPositive | State::InNegative),
+        Word::Symbol(_) => matches!(state, State::InPositive | State::InNegative),
+        Word::End => matches!(state, State::Before | State::InPositive | State::InNegative),
+        _ => false,
     }
 }
 
@@ -61,32 +57,14 @@ pub fn in_range(word: Word, sizes: Sizes) -> bool
     match word {
         Word::Rule(head) => head < sizes.nonterminals,
         Word::Symbol(symbol) => symbol_in_range(symbol, sizes),
-        Word::Positive => true,
-        Word::Negative => true,
-        Word::End => true,
-        Word::Heading {
-            nonterminals: _,
-            terminals: _,
-        } => true,
-        Word::Invalid => true,
+        _ => true,
     }
 }
 
 pub fn begins_rule(word: Word) -> bool
     ensures { result ≡ begins_rule word }
 {
-    match word {
-        Word::Rule(_) => true,
-        Word::Symbol(_) => false,
-        Word::Positive => false,
-        Word::Negative => false,
-        Word::End => false,
-        Word::Heading {
-            nonterminals: _,
-            terminals: _,
-        } => false,
-        Word::Invalid => false,
-    }
+    matches!(word, Word::Rule(_))
 }
 
 pub fn after(word: Word, state: State) -> State
@@ -97,30 +75,24 @@ pub fn after(word: Word, state: State) -> State
         Word::Positive => State::InPositive,
         Word::Negative => State::InNegative,
         Word::End => State::Closed,
-        Word::Symbol(_) => state,
-        Word::Heading {
-            nonterminals: _,
-            terminals: _,
-        } => state,
-        Word::Invalid => state,
+        _ => state,
     }
 }
 
 // The progress with one rule more, where there is room for it.
 #[tactic(auto, unfolding(grammar::specs::Reading::counted))]
-pub fn counted(state: State, sizes: Sizes, at: usize) -> Step
+pub fn counted(state: State, sizes: Sizes, at: usize) -> Result<Progress, Error>
     ensures { result ≡ counted_of state sizes at }
 {
     let rules = sizes.rules;
     if RULES <= rules {
-        return Step::Stop(Error::TooManyRules(at));
+        return Err(Error::TooManyRules(at));
     }
-    Step::Go(Progress {
+    Ok(Progress {
         state,
         sizes: Sizes {
-            nonterminals: sizes.nonterminals,
-            terminals: sizes.terminals,
             rules: rules + 1,
+            ..sizes
         },
     })
 }

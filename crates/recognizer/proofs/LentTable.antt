@@ -1,4 +1,5 @@
 -- The table that is lent of what was found while judging: that of the grammar, or nothing where judging is refused.
+use Rattle.std.specs.Prelude.{Ok}
 use mathlib.Core.Path.{◌≡◌, refl, sym, ap, ◌∙◌}
 use mathlib.Core.List.{List}
 use mathlib.Core.Option.{Option, none, some}
@@ -11,7 +12,6 @@ use Rattle.event.specs.Events.{input_of}
 use Rattle.event.proofs.Inputs.{input_length}
 use Rattle.lookahead.specs.declared.Lookahead.{Lookahead}
 use Rattle.lookahead.specs.declared.Lookahead.TheVariants.{One}
-use Rattle.families.specs.declared.Finding.TheVariants.{Passed}
 use Rattle.table.specs.declared.Found.{Found}
 use Rattle.table_promises.specs.Layout.{table_words, table_room}
 use Rattle.table_promises.specs.Analysis.{fault}
@@ -36,7 +36,7 @@ lent_found : (k : Lookahead) (words : List ℕ) (o : Option Error) {r : Found} �
 lent_found k words (some x) {r} e f table long = lent_nothing k r table (ap (λ y. y.finding) e)
 lent_found k words none {r} e f table long =
     let passed = found_passed k words (f refl) in
-    let p : r.finding ≡ Passed passed.0 = ap (λ y. y.finding) e ∙ passed.1 in
+    let p : r.finding ≡ Ok passed.0 = ap (λ y. y.finding) e ∙ passed.1 in
     lent_table (entries_told k words e p) table long p
 
 -- so what is promised of judging, and of judging the costliest input, holds

@@ -2,27 +2,34 @@
 #![tactic(auto)]
 
 ghost use Rattle.event.specs.Events.{input_of};
-ghost use Rattle.lookahead.specs.declared.Lookahead.TheVariants.{One, Two};
+ghost use Rattle.lookahead.specs.declared.Lookahead.TheVariants.{Two};
 ghost use Rattle.recognizer_promises.specs.Properties.{Judges};
 ghost use Rattle.recognizer_promises.specs.Costliest.{JudgesCostliest};
 
 use answer::{Answer, Error};
-use grammar::limits::{TABLE_WORDS, TABLE_WORDS_OF_TWO};
+use check_answers::{has_room, table_too_short};
+use grammar::limits::TABLE_WORDS;
 use judge_answers::answer;
-use lending::{lend, lend_two};
-use lookahead::Lookahead;
+use lending::{TableWord, lend};
 use recursive_descent::descend_words;
 use recursive_descent::search::descend_costliest;
 
-// Judges the input that the events of a log are by an encoded grammar, and fills the lent table and memo table.
-pub fn judge(words: &[u32], events: &[u8], table: &mut [u32], memo: &mut [u16]) -> Answer
-    ensures { Judges One words.now (input_of events.now) table.old memo.old result
-        table.new memo.new }
+// Judges the input that the events of a log are by an encoded grammar, and fills the lent table and memo table. Goes by the lookahead of the
+// table's words: by one token with words of 32 bits, by two with words of 64.
+pub fn judge<W: TableWord>(
+    words: &[u32],
+    events: &[u8],
+    table: &mut [W],
+    memo: &mut [u16],
+) -> Answer
+    ensures { Judges W.LOOKAHEAD words.now (input_of events.now) (W.numbers table.old) memo.old result
+        (W.numbers table.new) memo.new }
 {
-    if table.len() < TABLE_WORDS {
-        return Answer::Refused(Error::TableTooShort);
+    let lookahead = W::LOOKAHEAD;
+    if !has_room(table.len(), lookahead) {
+        return Answer::Refused(table_too_short(lookahead));
     }
-    let found = descend_words(words, Lookahead::One, events, memo);
+    let found = descend_words(words, lookahead, events, memo);
     let finding = found.finding;
     lend(
         finding,
@@ -34,24 +41,12 @@ pub fn judge(words: &[u32], events: &[u8], table: &mut [u32], memo: &mut [u16]) 
     answer(finding, events.len(), memo)
 }
 
-// The same with two tokens of lookahead, for grammars of few terminals, with a lent table of 64-bit words.
+// With two tokens, for grammars of few terminals.
 pub fn judge_two(words: &[u32], events: &[u8], table: &mut [u64], memo: &mut [u16]) -> Answer
     ensures { Judges Two words.now (input_of events.now) table.old memo.old result
         table.new memo.new }
 {
-    if table.len() < TABLE_WORDS_OF_TWO {
-        return Answer::Refused(Error::TableOfTwoTooShort);
-    }
-    let found = descend_words(words, Lookahead::Two, events, memo);
-    let finding = found.finding;
-    lend_two(
-        finding,
-        &found.firsts,
-        &found.follows,
-        &found.entries,
-        table,
-    );
-    answer(finding, events.len(), memo)
+    judge(words, events, table, memo)
 }
 
 // Finds, for an encoded grammar and a length, the costliest input, writes it into the lent log, and judges it in the lent table and memo table.

@@ -1,8 +1,9 @@
 -- What checking answers and leaves in the lent table, by what is found of the grammar; and what it means to pass.
+use Rattle.std.specs.Prelude.{None, Option, Some, Err, Ok, Result}
 use mathlib.Core.Path.{◌≡◌, refl, sym, ap, ◌∙◌}
 use mathlib.Core.List.Memᴰ
 use mathlib.Core.List.{List, [], ◌∷◌, ◌++◌}
-use mathlib.Core.Option.{Option, none, some}
+use mathlib.Core.Option.{Option as Maybe, none, some}
 use Prim.Native.Nat.{ℕ, ◌≤◌, ◌<◌}
 use lib.ListN.{length, drop}
 use borrow.Author.Tests.{lt-ltb, le-ltb}
@@ -18,7 +19,6 @@ use Rattle.grammar.specs.Encoding.{grammar_of}
 use Rattle.grammar.specs.inner.Starts.{rule_starts}
 use Rattle.grammar.specs.Reading.{reading}
 use Rattle.grammar.specs.declared.reading.Sizes.{Sizes}
-use Rattle.grammar.specs.declared.reading.Reading.TheVariants.{Read}
 use Rattle.encoding.specs.Encode.{sizes_of, Encodes}
 use Rattle.encoding.proofs.Decoding.{encodes_grammar}
 use Rattle.encoding.proofs.ReadingEncodes.{read_encodes, encodes_read}
@@ -34,8 +34,6 @@ use Rattle.semantics.specs.Productive.{lowest_unproductive}
 use Rattle.semantics.specs.Claims.{clashes}
 use Rattle.semantics.specs.Predictive.{Predictive}
 use Rattle.semantics.proofs.Theorems.{theorems}
-use Rattle.families.specs.declared.Finding.{Finding}
-use Rattle.families.specs.declared.Finding.TheVariants as finding
 use Rattle.families.proofs.FewTerminals.{few_terminals_lem}
 use Rattle.table.specs.declared.Found.{Found}
 use Rattle.table_promises.specs.Layout.{table_words, table_room}
@@ -46,8 +44,6 @@ use Rattle.families.proofs.Findings.{read_some, told_passed, told_refused}
 use Rattle.table_promises.specs.Analysis.{clash_fault, grammar_faults, fault}
 use Rattle.table.specs.inner.Analysis.{entries_if, found_of}
 use Rattle.table_promises.specs.Conflicts.{first_clash}
-use Rattle.table_promises.specs.declared.Conflict.{Conflict}
-use Rattle.table_promises.specs.declared.Conflict.TheVariants.{Absent, At}
 use Rattle.table_promises.proofs.FirstClash.{clash_absent}
 use Rattle.table_promises.proofs.GrammarFaults.{none_sets}
 use Rattle.promises.specs.Leaving.{lent, Leaves}
@@ -59,9 +55,9 @@ use Rattle.promises.proofs.Places.{check_tells, none_left, none_unproductive}
 use Rattle.recognizer_promises.proofs.Words.{least_sets, clash_none, understood}
 use Rattle.recognizer_promises.proofs.Places.{encodes_taken, fault_encoded, places}
 
-none_clash : (k : Lookahead) (r : Conflict) → clash_fault k r ≡ none → r ≡ Absent
-none_clash k Absent e = refl
-none_clash k (At A c) e = absurd (none_some (sym e))
+none_clash : (k : Lookahead) (r : Option (ℕ × ℕ)) → clash_fault k r ≡ none → r ≡ None
+none_clash k None e = refl
+none_clash k (Some (A, c)) e = absurd (none_some (sym e))
 
 -- a grammar that fits has no more terminals than its lookahead allows
 pub fits_few : (k : Lookahead) {words : List ℕ} (G : Grammar) → Encodes words G → Fits k G → G.terminals ≤ alphabet k
@@ -121,7 +117,7 @@ module _ {k : Lookahead} (words : List ℕ) (p : PassedGrammar k words) where
   pub all_productive : lowest_unproductive (grammar_of words) n ≡ none
   all_productive = (theorems.productive_decided (grammar_of words) n).absent.1 (rw (← same_grammar) p.productive)
 
-  pub passed_read : reading words ≡ Read (sizes_of (grammar_of words))
+  pub passed_read : reading words ≡ Ok (sizes_of (grammar_of words))
   passed_read = encodes_read words (grammar_of words) p.short passed_encodes
 
   -- and has no fault
@@ -141,7 +137,7 @@ pub check_fault_long : (k : Lookahead) (n : ℕ) (words : List ℕ) → table_ro
 unfolding check_fault fault
 check_fault_long k n words h = rw (le-ltb n (table_room k) h)
 
-refused_passed : (f : Option Error) → refused_or f Passed ≡ Passed → f ≡ none
+refused_passed : (f : Maybe Error) → refused_or f Passed ≡ Passed → f ≡ none
 refused_passed none e = refl
 refused_passed (some x) e = absurd (refused_ne_passed e)
 
@@ -177,7 +173,7 @@ module _ (k : Lookahead) where
       first = short_first k (length table) words h
 
 -- what is found of an encoded grammar tells
-pub record Told (k : Lookahead) (words : List ℕ) (f : Finding) (starts entries : List ℕ) : Type 0 where
+pub record Told (k : Lookahead) (words : List ℕ) (f : Result Sizes Error) (starts entries : List ℕ) : Type 0 where
   pub finding : f ≡ finding_of (fault k words) (admission k words)
   pub begins : starts ≡ starts_if (sets_fault k words) (rule_starts words)
   pub entered : entries ≡ entries_if (fault k words) (entries_of k (grammar_of words))
@@ -186,9 +182,9 @@ pub told : (k : Lookahead) (words : List ℕ) {r : Found} → r ≡ found_of k w
 unfolding found_of
 told k words e = record { finding = ap (λ y. y.finding) e; begins = ap (λ y. y.starts) e; entered = ap (λ y. y.entries) e }
 
-module _ {k : Lookahead} {words : List ℕ} {f : Finding} {starts entries : List ℕ} (t : Told k words f starts entries) where
+module _ {k : Lookahead} {words : List ℕ} {f : Result Sizes Error} {starts entries : List ℕ} (t : Told k words f starts entries) where
   -- where no fault is found, the sizes, the starts of the rules and the entries are
-  pub found : {z : Sizes} → f ≡ finding.Passed z → EntriesFound k words z starts entries
+  pub found : {z : Sizes} → f ≡ Ok z → EntriesFound k words z starts entries
   found q =
       let m = told_passed (fault k words) (admission k words) (sym t.finding ∙ q) in
       record {
@@ -198,7 +194,7 @@ module _ {k : Lookahead} {words : List ℕ} {f : Finding} {starts entries : List
         entered = t.entered ∙ ap (λ y. entries_if y (entries_of k (grammar_of words))) m.0;
       }
 
-  pub found_fault : {x : Error} → f ≡ finding.Refused x → fault k words ≡ some x
+  pub found_fault : {x : Error} → f ≡ Err x → fault k words ≡ some x
   unfolding fault
   found_fault q = told_refused (fault k words) (admission k words) (λ y e. rw e) (sym t.finding ∙ q)
 
@@ -211,7 +207,7 @@ pub check_refused : {k : Lookahead} (words table : List ℕ) → table_room k �
 check_refused {k} words table long f = checks k (leaves_refused (check_fault_long k (length table) words long ∙ f) (refl, tt))
 
 -- a grammar without a fault is found to pass
-pub found_passed : (k : Lookahead) (words : List ℕ) → fault k words ≡ none → (z : Sizes) × ((found_of k words).finding ≡ finding.Passed z)
+pub found_passed : (k : Lookahead) (words : List ℕ) → fault k words ≡ none → (z : Sizes) × ((found_of k words).finding ≡ Ok z)
 unfolding fault found_of
 found_passed k words e =
     let z = read_some (admission k words) (each_none (grammar_faults k words) e).0 in

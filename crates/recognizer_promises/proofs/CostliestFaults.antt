@@ -1,4 +1,5 @@
 -- What judging the costliest input answers and leaves in the lent memories, by the first fault.
+use Rattle.std.specs.Prelude.{Err, Ok, Result}
 use mathlib.Core.Path.{◌≡◌, refl, sym, ap, ◌∙◌}
 use mathlib.Core.List.{List, [], ◌∷◌, ◌++◌}
 use mathlib.Core.Option.{Option, none, some}
@@ -26,8 +27,6 @@ use Rattle.lookahead.specs.declared.Lookahead.TheVariants.{One}
 use Rattle.inputs.specs.Inputs.{max_inputs}
 use Rattle.inputs.specs.Costliest.{CostliestOf}
 use Rattle.inputs.proofs.Greatest.{costliest_of}
-use Rattle.families.specs.declared.Finding.{Finding}
-use Rattle.families.specs.declared.Finding.TheVariants as finding
 use Rattle.families.proofs.FewTerminals.{admitted_read}
 use Rattle.base.specs.Strings.{Over}
 use Rattle.semantics.specs.Descent.{accepts}
@@ -102,7 +101,7 @@ module _ (words : List ℕ) (k : ℕ) (log memo : List ℕ) where
     abbrev faults : ℕ → List (Option Error)
     faults n = length_faults n k
 
-    abbrev grammar_found : Finding
+    abbrev grammar_found : Result Sizes Error
     grammar_found = (found_of One words).finding
 
     abbrev known : Told One words grammar_found (found_of One words).starts (found_of One words).entries
@@ -111,13 +110,13 @@ module _ (words : List ℕ) (k : ℕ) (log memo : List ℕ) where
     finding_is : found.finding ≡ with_search (length log) (length memo) grammar_found k
     finding_is = ap (λ y. y.finding) e
 
-    abbrev behind_memo : Finding
+    abbrev behind_memo : Result Sizes Error
     behind_memo = with_log (length log) grammar_found k
 
-    abbrev behind_log : Finding
+    abbrev behind_log : Result Sizes Error
     behind_log = with_length grammar_found k
 
-    pub search_refused : {x : Error} → found.finding ≡ finding.Refused x → SearchesWords words k log memo found log memo
+    pub search_refused : {x : Error} → found.finding ≡ Err x → SearchesWords words k log memo found log memo
     search_refused {x} p =
         let G = grammar_of words in
         let w = costliest_input G k in
@@ -142,11 +141,11 @@ module _ (words : List ℕ) (k : ℕ) (log memo : List ℕ) where
         by_memo (too_short h s) = memo_first h ∙ ap some s
         by_memo (enough room i) = by_log room (room_refused (length log) max_tokens BufferTooShort behind_log i)
 
-    module _ {z : Sizes} (p : found.finding ≡ finding.Passed z) where
-      long_memo : (max_memo_entries ≤ length memo) × (behind_memo ≡ finding.Passed z)
+    module _ {z : Sizes} (p : found.finding ≡ Ok z) where
+      long_memo : (max_memo_entries ≤ length memo) × (behind_memo ≡ Ok z)
       long_memo = room_passed (length memo) max_memo_entries MemoTooShort behind_memo (sym finding_is ∙ p)
 
-      long_log : (max_tokens ≤ length log) × (behind_log ≡ finding.Passed z)
+      long_log : (max_tokens ≤ length log) × (behind_log ≡ Ok z)
       long_log = room_passed (length log) max_tokens BufferTooShort behind_log long_memo.1
 
       both : PassedWith grammar_found faults z

@@ -1,7 +1,8 @@
 -- The order of the faults of judging: which is the first, by what holds; and what holds where there is none.
+use Rattle.std.specs.Prelude.{None, Option, Some}
 use mathlib.Core.Path.{◌≡◌, refl, sym, ◌∙◌}
 use mathlib.Core.List.{List, [], ◌∷◌}
-use mathlib.Core.Option.{Option, none, some}
+use mathlib.Core.Option.{Option as Maybe, none, some}
 use Prim.Native.Nat.{ℕ, ◌≤◌, ◌<◌}
 use lib.Dec.{ltb}
 use lib.ListN.{length}
@@ -17,14 +18,12 @@ use Rattle.lookahead.specs.declared.Lookahead.{Lookahead}
 use Rattle.table_promises.specs.Layout.{table_room}
 use Rattle.table_promises.specs.Analysis.{grammar_faults, fault}
 use Rattle.event.proofs.Known.{known_absent, absent_known}
-use Rattle.event.specs.declared.Unknown.{Unknown}
-use Rattle.event.specs.declared.Unknown.TheVariants.{Absent, At}
 use Rattle.event.specs.Unknown.{unknown_from, unknown_fault}
 use Rattle.recognizer_promises.specs.Answers.{table_too_short, check_fault, judge_fault, input_faults}
 use Rattle.recognizer_promises.specs.inner.Judging.{memo_fault}
 
 -- the rows of judging, with the grammar's faults as one
-abbrev pub judge_rows : Lookahead → ℕ → ℕ → List ℕ → List ℕ → List (Option Error)
+abbrev pub judge_rows : Lookahead → ℕ → ℕ → List ℕ → List ℕ → List (Maybe Error)
 judge_rows k table memo words input =
     fault_if (ltb table (table_room k)) (table_too_short k)
     ∷ fault_if (ltb memo max_memo_entries) MemoTooShort
@@ -55,7 +54,7 @@ pub memo_fault_short : (k : Lookahead) (words input memo : List ℕ) → length 
 unfolding memo_fault
 memo_fault_short k words input memo h = rw (lt-ltb (length memo) max_memo_entries h)
 
-pub memo_fault_long : (k : Lookahead) (words input memo : List ℕ) → max_memo_entries ≤ length memo → {f : Option Error} → fault k words ≡ f
+pub memo_fault_long : (k : Lookahead) (words input memo : List ℕ) → max_memo_entries ≤ length memo → {f : Maybe Error} → fault k words ≡ f
     → memo_fault k (length memo) words input ≡ first_fault (f ∷ input_faults (grammar_of words).terminals input)
 memo_fault_long k words input memo room e = rw (memo_rows k (length memo) words input, le-ltb (length memo) max_memo_entries room, e)
 
@@ -70,13 +69,13 @@ faultless_readable n input e =
       absent_known n 0 input (none_unknown (unknown_from n 0 input) f.1.0),
     )
   where
-    none_unknown : (u : Unknown) → unknown_fault u ≡ none → u ≡ Absent
-    none_unknown Absent q = refl
-    none_unknown (At i) q = absurd (none_some (sym q))
+    none_unknown : (u : Option ℕ) → unknown_fault u ≡ none → u ≡ None
+    none_unknown None q = refl
+    none_unknown (Some i) q = absurd (none_some (sym q))
 
 -- the first fault, by what holds
 module _ (k : Lookahead) (words input table memo : List ℕ) where
-  abbrev judged : Option Error
+  abbrev judged : Maybe Error
   judged = judge_fault k (length table) (length memo) words input
 
   pub table_short : length table < table_room k → judged ≡ some (table_too_short k)
@@ -89,14 +88,14 @@ module _ (k : Lookahead) (words input table memo : List ℕ) where
     memo_short h = rw (le-ltb (length table) (table_room k) long, lt-ltb (length memo) max_memo_entries h)
 
     module _ (room : max_memo_entries ≤ length memo) where
-      pub judge_fault_long : {f : Option Error} → fault k words ≡ f → judged ≡ first_fault (f ∷ input_faults (grammar_of words).terminals input)
+      pub judge_fault_long : {f : Maybe Error} → fault k words ≡ f → judged ≡ first_fault (f ∷ input_faults (grammar_of words).terminals input)
       judge_fault_long e =
           rw (judged_rows k (length table) (length memo) words input, le-ltb (length table) (table_room k) long, le-ltb (length memo) max_memo_entries room, e)
 
       pub grammar_fault : {x : Error} → fault k words ≡ some x → judged ≡ some x
       grammar_fault e = judge_fault_long e
 
-      pub input_fault : {f : Option Error} → fault k words ≡ none → first_fault (input_faults (grammar_of words).terminals input) ≡ f → judged ≡ f
+      pub input_fault : {f : Maybe Error} → fault k words ≡ none → first_fault (input_faults (grammar_of words).terminals input) ≡ f → judged ≡ f
       input_fault passed e = judge_fault_long passed ∙ e
 
 module _ (k : Lookahead) (words input : List ℕ) (table memo : ℕ) (e : judge_fault k table memo words input ≡ none) where

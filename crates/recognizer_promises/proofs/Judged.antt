@@ -1,4 +1,5 @@
 -- What judging answers and leaves in the lent memories, by the first fault.
+use Rattle.std.specs.Prelude.{Err, Ok, Result}
 use mathlib.Core.Path.{◌≡◌, refl, sym, ap, ◌∙◌}
 use mathlib.Core.Bool.{Bool, true, false}
 use mathlib.Core.List.{List, [], ◌∷◌, ◌++◌}
@@ -34,8 +35,6 @@ use Rattle.table_promises.specs.Layout.{table_words, table_room}
 use Rattle.table_promises.specs.Analysis.{fault}
 use Rattle.table.specs.inner.Analysis.{found_of}
 use Rattle.table.specs.declared.Found.{Found}
-use Rattle.families.specs.declared.Finding.{Finding}
-use Rattle.families.specs.declared.Finding.TheVariants as finding
 use Rattle.promises.specs.Memory.{lent_back}
 use Rattle.promises.specs.Leaving.{lent, Leaves}
 use Rattle.promises.proofs.Leaving.{leaves, leaves_alike, leaves_refused, unrefused}
@@ -158,7 +157,7 @@ module _ (k : Lookahead) (words input memo : List ℕ) {found : Found}
   abbrev faults : ℕ → List (Option Error)
   faults n = input_faults n input
 
-  abbrev grammar_found : Finding
+  abbrev grammar_found : Result Sizes Error
   grammar_found = (found_of k words).finding
 
   abbrev known : Told k words grammar_found (found_of k words).starts (found_of k words).entries
@@ -167,7 +166,7 @@ module _ (k : Lookahead) (words input memo : List ℕ) {found : Found}
   finding_is : found.finding ≡ with_memo (length memo) grammar_found input
   finding_is = ap (λ y. y.finding) e
 
-  pub words_refused : {x : Error} → found.finding ≡ finding.Refused x → DescendsWords k words input memo found memo
+  pub words_refused : {x : Error} → found.finding ≡ Err x → DescendsWords k words input memo found memo
   words_refused {x} p =
       let f = go (room_refused (length memo) max_memo_entries MemoTooShort (with_input grammar_found input) (sym finding_is ∙ p)) in
       record {
@@ -185,8 +184,8 @@ module _ (k : Lookahead) (words input memo : List ℕ) {found : Found}
       go (too_short h s) = memo_fault_short k words input memo h ∙ ap some s
       go (enough room i) = behind room (with_refused grammar_found faults i)
 
-  module _ {z : Sizes} (p : found.finding ≡ finding.Passed z) where
-    long : (max_memo_entries ≤ length memo) × (with_input grammar_found input ≡ finding.Passed z)
+  module _ {z : Sizes} (p : found.finding ≡ Ok z) where
+    long : (max_memo_entries ≤ length memo) × (with_input grammar_found input ≡ Ok z)
     long = room_passed (length memo) max_memo_entries MemoTooShort (with_input grammar_found input) (sym finding_is ∙ p)
 
     both : PassedWith grammar_found faults z

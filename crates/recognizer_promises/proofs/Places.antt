@@ -1,8 +1,9 @@
 -- The places that the refusals 8, 13 and 9 tell: the lowest nonterminal that reaches itself, the lowest whose first set is empty, the first clash.
+use Rattle.std.specs.Prelude.{None, Option, Some, Ok}
 use mathlib.Core.Path.{◌≡◌, refl, sym, ap, ap₂, ◌∙◌}
 use mathlib.Core.List.{List, [], ◌∷◌}
 use mathlib.Core.Logic.{◌↔◌}
-use mathlib.Core.Option.{Option, none, some}
+use mathlib.Core.Option.{Option as Maybe, none, some}
 use Prim.Native.Nat.{ℕ, ◌≤◌}
 use native.Mathlib.Omega.{arith}
 use lib.ListN.{length}
@@ -20,15 +21,12 @@ use Rattle.lookahead.specs.Lookaheads.{tokens}
 use Rattle.lookahead.specs.inner.Lookaheads.{alphabet}
 use Rattle.admission.specs.Admission.{Fits, admission}
 use Rattle.admission.proofs.Admitted.{admitted}
-use Rattle.grammar.specs.declared.reading.Reading.TheVariants.{Read}
 use Rattle.encoding.specs.Encode.{sizes_of, Encodes}
 use Rattle.encoding.proofs.Decoding.{encodes_grammar}
 use Rattle.encoding.proofs.ReadingEncodes.{encodes_read}
 use Rattle.semantics.specs.LeftRecursion.{lowest_left_recursive, NoLeftRecursion}
 use Rattle.semantics.specs.Productive.{lowest_unproductive}
 use Rattle.semantics.proofs.Theorems.{theorems}
-use Rattle.table_promises.specs.declared.Conflict.{Conflict as Clash}
-use Rattle.table_promises.specs.declared.Conflict.TheVariants as conflict
 use Rattle.table_promises.specs.Analysis.{conflict_error, clash_fault, fault}
 use Rattle.table_promises.specs.Conflicts.{first_clash, FirstClash}
 use Rattle.table_promises.proofs.FirstClash.{clash_first, first_clash_lem}
@@ -43,17 +41,17 @@ clash_code Two A c = refl
 
 module _ (k : Lookahead) where
   -- the fault of a grammar that has been taken, by what is found of it
-  abbrev pub grammar_fault : Option ℕ → Option ℕ → Clash → Option Error
+  abbrev pub grammar_fault : Maybe ℕ → Maybe ℕ → Option (ℕ × ℕ) → Maybe Error
   grammar_fault o u r = fault_by (clash_fault k r ∷ []) o u
 
-  clash_other : (r : Clash) (e : Error) → first_fault (clash_fault k r ∷ []) ≡ some e → Other e
-  clash_other conflict.Absent e q = absurd (none_some q)
-  clash_other (conflict.At B c) e q =
+  clash_other : (r : Option (ℕ × ℕ)) (e : Error) → first_fault (clash_fault k r ∷ []) ≡ some e → Other e
+  clash_other None e q = absurd (none_some q)
+  clash_other (Some (B, c)) e q =
       let nine = sym (fault_number_lem q) ∙ clash_code k B c in
       record { not_left = λ h. omega (arith, nine, h); not_empty = λ h. omega (arith, nine, h) }
 
   -- the words of a grammar that fits are taken
-  pub encodes_taken : (words : List ℕ) (G : Grammar) → length words ≤ max_words → Encodes words G → Fits k G → admission k words ≡ Read (sizes_of G)
+  pub encodes_taken : (words : List ℕ) (G : Grammar) → length words ≤ max_words → Encodes words G → Fits k G → admission k words ≡ Ok (sizes_of G)
   encodes_taken words G short e fits = (admitted k words (sizes_of G)).1 (encodes_read words G short e, rw (encodes_grammar words G e) fits)
 
   pub fault_encoded : (words : List ℕ) (G : Grammar) → length words ≤ max_words → Encodes words G → Fits k G
@@ -62,14 +60,14 @@ module _ (k : Lookahead) where
   fault_encoded words G short e fits = rw (encodes_taken words G short e fits, encodes_grammar words G e)
 
 -- a clash is reported with its nonterminal and its column
-clash_same : (k : Lookahead) {A B c d : ℕ} → conflict_error k B d ≡ conflict_error k A c → conflict.At B d ≡ conflict.At A c
-clash_same One {A} {B} {c} {d} e = let z : B ≡ A = cc in let y : d ≡ c = cc in ap₂ conflict.At z y
-clash_same Two {A} {B} {c} {d} e = let z : B ≡ A = cc in let y : d ≡ c = cc in ap₂ conflict.At z y
+clash_same : (k : Lookahead) {A B c d : ℕ} → conflict_error k B d ≡ conflict_error k A c → ◌≡◌ {A = Option (ℕ × ℕ)} (Some (B, d)) (Some (A, c))
+clash_same One {A} {B} {c} {d} e = let z : B ≡ A = cc in let y : d ≡ c = cc in rw (z, y)
+clash_same Two {A} {B} {c} {d} e = let z : B ≡ A = cc in let y : d ≡ c = cc in rw (z, y)
 
-clash_told : (k : Lookahead) (o u : Option ℕ) (r : Clash) (A c : ℕ) → grammar_fault k o u r ≡ some (conflict_error k A c)
-    → (o ≡ none) × (u ≡ none) × (r ≡ conflict.At A c)
-clash_told k none none conflict.Absent A c e = absurd (omega (arith, fault_number_lem e ∙ clash_code k A c))
-clash_told k none none (conflict.At B d) A c e = let z : conflict_error k B d ≡ conflict_error k A c = cc in (refl, refl, clash_same k z)
+clash_told : (k : Lookahead) (o u : Maybe ℕ) (r : Option (ℕ × ℕ)) (A c : ℕ) → grammar_fault k o u r ≡ some (conflict_error k A c)
+    → (o ≡ none) × (u ≡ none) × (r ≡ Some (A, c))
+clash_told k none none None A c e = absurd (omega (arith, fault_number_lem e ∙ clash_code k A c))
+clash_told k none none (Some (B, d)) A c e = let z : conflict_error k B d ≡ conflict_error k A c = cc in (refl, refl, clash_same k z)
 clash_told k none (some B) r A c e = absurd (omega (arith, fault_number_lem e ∙ clash_code k A c))
 clash_told k (some B) u r A c e = absurd (omega (arith, fault_number_lem e ∙ clash_code k A c))
 
@@ -77,10 +75,10 @@ module _ (k : Lookahead) (G : Grammar) (scoped : WellScoped G) (few : G.terminal
   abbrev n : ℕ
   n = tokens k
 
-  abbrev behind : List (Option Error)
+  abbrev behind : List (Maybe Error)
   behind = clash_fault k (first_clash k G) ∷ []
 
-  abbrev told : Option Error
+  abbrev told : Maybe Error
   told = grammar_fault k (lowest_left_recursive G) (lowest_unproductive G n) (first_clash k G)
 
   first_told : (A c : ℕ) → (told ≡ some (conflict_error k A c)) ↔ (NoLeftRecursion G × AllProductive k G × FirstClash k G A c)

@@ -47,6 +47,7 @@ fn run_body(
 {
     let mut at = from;
     let mut place = start;
+    // The body is over where a word says so, so no range drives this loop.
     loop {
         let step = step_of_word(words[at]);
         let entry = match step {
@@ -56,7 +57,7 @@ fn run_body(
             Step::Terminal(terminal) => end_behind(token_at(tokens, place), terminal, place),
             Step::Nonterminal(called) => call(called as usize, words, choices, tokens, memo, place),
         };
-        at = at + 1;
+        at += 1;
         let outcome = recall(entry);
         let Outcome::End(end) = outcome else {
             return Run { end: FAILED, at };
@@ -89,6 +90,7 @@ pub(crate) fn call(
     let column = column_of(token_at(tokens, place));
     let first = choice_at(choices, nonterminal, column);
     let mut state = first_state(words, choices, first);
+    // Where a body stops tells where the next begins.
     while goes_further(state) {
         let from = state.at + 1;
         let run = run_body(nonterminal, words, choices, tokens, memo, from, place);

@@ -40,6 +40,7 @@ fn leave_costliest(
     ensures { CostliestLeft words.now (length events.old) events.new memo.new }
 {
     let mut trials = no_trials();
+    // The trials count the inputs themselves, so no range drives this loop.
     while trials.next < inputs {
         let calls = try_input(words, choices, last, trials.next, events, memo);
         trials = tried(trials, calls);

@@ -1,4 +1,6 @@
 -- Skipping the symbols of a body leaves the rest of its rule as it is, and ends where the body does.
+use Rattle.std.specs.Prelude.{Err, Ok, Result}
+use Rattle.answer.specs.declared.Error.{Error}
 use mathlib.Core.Path.{◌≡◌, refl, sym, ap, ◌∙◌}
 use mathlib.Core.Bool.{Bool, true, false, true≢false}
 use mathlib.Core.List.{List}
@@ -12,8 +14,6 @@ use Rattle.word.specs.declared.Word.TheVariants.{Symbol}
 use Rattle.word.specs.Words.{decoded}
 use Rattle.grammar.specs.declared.reading.Sizes.{Sizes}
 use Rattle.grammar.specs.declared.reading.Progress.{Progress}
-use Rattle.grammar.specs.declared.reading.Reading.{Reading}
-use Rattle.grammar.specs.declared.reading.Reading.TheVariants.{Read, Faulty}
 use Rattle.grammar.specs.Encoding.{on_word, parse}
 use Rattle.grammar.specs.Reading.{scan, finished}
 use Rattle.grammar.proofs.Suffixes.{scan_next}
@@ -30,7 +30,7 @@ parse_here words at h = rw (add-one at) (parse_first words at h)
 -- a symbol leaves the progress of a reading as it is
 pub symbol_reads : (words : List ℕ) (at : ℕ) (p : Progress) (z : Sizes) (X : grammar.Symbol) → at < length words
     → decoded (get_or words at 0) ≡ Symbol X
-    → scan p at (drop at words) ≡ Read z → scan p (at + 1) (drop (at + 1) words) ≡ Read z
+    → scan p at (drop at words) ≡ Ok z → scan p (at + 1) (drop (at + 1) words) ≡ Ok z
 symbol_reads words at p z X h x e =
     let n = scan_next words at p z h e in
     let k = rw x at n.passed in
@@ -46,14 +46,14 @@ symbol_reads words at p z X h x e =
     rw (same) at n.reads
 
 -- a reading that has not met the end's word is within the words
-pub read_within : (words : List ℕ) (at : ℕ) (p : Progress) (z : Sizes) → at ≤ length words → scan p at (drop at words) ≡ Read z
+pub read_within : (words : List ℕ) (at : ℕ) (p : Progress) (z : Sizes) → at ≤ length words → scan p at (drop at words) ≡ Ok z
     → is_closed p.state ≡ false → at < length words
 unfolding scan finished
 read_within words at p z h e c = go (dec_lt at (length words))
   where
-    read_number : Reading → ℕ
-    read_number (Read s) = 0
-    read_number (Faulty x) = 1
+    read_number : Result Sizes Error → ℕ
+    read_number (Ok s) = 0
+    read_number (Err x) = 1
 
     go : Dec (at < length words) → at < length words
     go (yes l) = l

@@ -1,11 +1,12 @@
 -- From what is found of a grammar and an input to a descent, and from the descent to what the memo table then holds.
+use Rattle.std.specs.Prelude.{Err, Ok, Result}
 use mathlib.Core.Path.{◌≡◌, refl, sym, ap, ◌∙◌}
 use mathlib.Core.List.{List, ◌++◌}
 use Prim.Native.Nat.{ℕ, ◌+◌, ◌*◌, ◌≤◌, ◌<◌, min}
 use native.Mathlib.Nat.{mul-le-mul}
 use native.Mathlib.Numerals.{add-one}
 use native.Mathlib.Omega.{arith}
-use lib.ListN.{length, replicate, take, drop, length-append, length-replicate, get_or-replicate}
+use lib.ListN.{length, replicate, take, drop, length-replicate, get_or-replicate}
 use lib.Seq.{length-take-le, take_at, drop_at}
 use Rattle.grammar.specs.Codes.{uncalled_code}
 use Rattle.grammar.specs.Syntax.{Grammar}
@@ -27,8 +28,6 @@ use Rattle.columns.specs.Columns.{column_count}
 use Rattle.table.specs.inner.Entries.{entries_of}
 use Rattle.recognizer_promises.specs.Memory.{memo_words}
 use Rattle.answer.specs.declared.Error.{Error}
-use Rattle.families.specs.declared.Finding.{Finding}
-use Rattle.families.specs.declared.Finding.TheVariants.{Passed, Refused}
 use Rattle.recognizer_promises.specs.inner.Judging.{Ready, PassedGiven, DescendsWords}
 use Rattle.recognizer_promises.proofs.Judged.{needed_room, descend_given, front_left, words_refused, passed_given, words_descended}
 use Rattle.recognizer_promises.proofs.MemoWords.{words_recorded}
@@ -139,9 +138,6 @@ module _ {k : Lookahead} {words events memo : List ℕ} {p : Prepared} {memo₁ 
   blank_long : length (replicate needed uncalled_code) ≡ needed
   blank_long = length-replicate needed uncalled_code
 
-  pub prepared_fits : needed ≤ length memo₁
-  prepared_fits = rw (m.blank, length-append (replicate needed uncalled_code) (drop needed memo), blank_long) (omega arith)
-
   part_is : take needed memo₁ ≡ replicate (length (take needed memo)) uncalled_code
   part_is =
       ap (take needed) m.blank ∙ take_at (replicate needed uncalled_code) (drop needed memo) needed blank_long
@@ -151,7 +147,7 @@ module _ {k : Lookahead} {words events memo : List ℕ} {p : Prepared} {memo₁ 
   rest_is = ap (drop needed) m.blank ∙ drop_at (replicate needed uncalled_code) (drop needed memo) needed blank_long
 
   -- a grammar that passes, in the front of the memo table
-  module _ {z : Sizes} (q : p.found.finding ≡ Passed z) where
+  module _ {z : Sizes} (q : p.found.finding ≡ Ok z) where
     g : PassedGiven k words z p.found.starts p.found.entries (input_of events) memo
     g = passed_given k words (input_of events) memo m.finds q
 
@@ -206,22 +202,22 @@ module _ {k : Lookahead} {words events memo : List ℕ} {p : Prepared} {memo₁ 
       same : memo₁ ≡ memo
       same = m.blank ∙ ap (λ n. replicate n uncalled_code ++ drop n memo) e
 
-      go : (f : Finding) → p.found.finding ≡ f → DescendsWords k words (input_of events) memo p.found memo₁
-      go (Passed z) q = absurd (omega (arith, needed_some q, e))
-      go (Refused x) q = rw same (words_refused k words (input_of events) memo m.finds q)
+      go : (f : Result Sizes Error) → p.found.finding ≡ f → DescendsWords k words (input_of events) memo p.found memo₁
+      go (Ok z) q = absurd (omega (arith, needed_some q, e))
+      go (Err x) q = rw same (words_refused k words (input_of events) memo m.finds q)
 
   -- with entries the start can be called
   module _ (some : needed ≡ 0 → ⊥) where
-    none : {x : Error} → p.found.finding ≡ Refused x → needed ≡ 0
+    none : {x : Error} → p.found.finding ≡ Err x → needed ≡ 0
     unfolding memo_entries
     none q = let e = m.fitting ∙ ap (λ f. min (memo_entries (sizes_of f).nonterminals (length events)) (length memo)) q in omega (arith, e)
 
-    passed : (z : Sizes) × (p.found.finding ≡ Passed z)
+    passed : (z : Sizes) × (p.found.finding ≡ Ok z)
     passed = go p.found.finding refl
       where
-        go : (f : Finding) → p.found.finding ≡ f → (z : Sizes) × (p.found.finding ≡ Passed z)
-        go (Passed z) q = (z, q)
-        go (Refused x) q = absurd (some (none q))
+        go : (f : Result Sizes Error) → p.found.finding ≡ f → (z : Sizes) × (p.found.finding ≡ Ok z)
+        go (Ok z) q = (z, q)
+        go (Err x) q = absurd (some (none q))
 
     pub prepared_start : CallRequires words p.choices p.tokens (take needed memo₁) 0 0
     prepared_start = passed_start passed.1

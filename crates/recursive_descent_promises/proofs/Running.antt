@@ -36,13 +36,12 @@ use Rattle.semantics.specs.inner.Memo.{decode}
 use Rattle.semantics.proofs.meaning.Rank.{level_onward}
 use Rattle.semantics.proofs.descent.Outcomes.{end_ends}
 use Rattle.semantics.proofs.descent.Ends.{descend_forward, descend_null}
-use Rattle.rule.specs.inner.Rule.{is_symbol, body_end}
-use Rattle.rule.proofs.Bodies.{body_stops}
+use Rattle.rule.specs.inner.Rule.{body_end}
+use Rattle.rule.proofs.Bodies.{symbol_test, body_stops}
 use Rattle.descent_steps.specs.declared.Step.TheVariants as step
 use Rattle.descent_steps.specs.declared.Step.TheVariants.{Over}
 use Rattle.descent_steps.specs.inner.Steps.{step_of, end_behind}
 use Rattle.descent_steps.proofs.Steps.{terminal_word, nonterminal_word, symbol_step_lem}
-use Rattle.grammar.specs.Limits.{max_nonterminals}
 use Rattle.recursive_descent_promises.specs.declared.Run.{Run}
 use Rattle.descent_arrays.specs.inner.Arrays.{end_mark, column_weight, matches_at}
 use Rattle.recursive_descent_promises.specs.inner.Descent.{is_closed, Skipped, MemoSound, CallGiven, RunGiven, CallDone, RunDone}
@@ -146,15 +145,6 @@ unfolding outcome_code decode
 decode_encode n Failed s h = refl
 decode_encode n (End e) s h = rw (ne_eqb e failed_code (λ q. absurd (omega (arith, h e (end_ends (End e) e refl)))))
 
-no_symbol : (w : Word) → ((X : grammar.Symbol) → w ≡ Symbol X → ⊥) → is_symbol w ≡ false
-no_symbol (Heading n t) h = refl
-no_symbol (Rule A) h = refl
-no_symbol Positive h = refl
-no_symbol Negative h = refl
-no_symbol (Symbol X) h = absurd (h X refl)
-no_symbol EndWord h = refl
-no_symbol Invalid h = refl
-
 -- the words that are no symbol end a body
 body_none : (w : Word) (p : Parsed) (s : State) → allows w s ≡ true → ((X : grammar.Symbol) → w ≡ Symbol X → ⊥) → (on_word w p).body ≡ []
 unfolding on_word
@@ -192,7 +182,7 @@ module _ {choice : Choice} {words choices tokens input memo₀ : List ℕ} {A fr
       let none : (X : grammar.Symbol) → decoded (get_or words at 0) ≡ Symbol X → ⊥ = λ X q. symbol_step_lem X (sym (ap step_of q) ∙ e) in
       done (ap (λ p. p.body) (parse_here words at running_within)
       ∙ body_none (decoded (get_or words at 0)) (parse (drop (at + 1) words)) v.progress.state s.passed.allowed none)
-      (body_stops words at running_within (no_symbol (decoded (get_or words at 0)) none))
+      (body_stops words at running_within (symbol_test (decoded (get_or words at 0)) none))
 
   -- the body from a symbol on
   module _ (X : grammar.Symbol) (h : at < length words) (x : decoded (get_or words at 0) ≡ Symbol X) where
@@ -312,9 +302,6 @@ module _ {choice : Choice} {words choices tokens input memo₀ : List ℕ} {A fr
       named = (known_here (Nonterminal B) running_within nonterminal_there).0;
       placed = v.placed;
     }
-
-    pub running_small : B < max_nonterminals
-    running_small = omega (arith, (known_here (Nonterminal B) running_within nonterminal_there).0, (r g).nonterminals, (r g).few_nonterminals)
 
     pub running_falls : level words input B place < level words input A start
     unfolding measure

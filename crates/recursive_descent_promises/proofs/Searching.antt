@@ -1,4 +1,5 @@
 -- The search for the costliest input: the descents on all inputs go by the same choices in the same memory, and the one on the costliest is the last.
+use Rattle.std.specs.Prelude.{Err, Ok, Result}
 use mathlib.Core.Path.{◌≡◌, refl, sym, ap, ◌∙◌}
 use mathlib.Core.Bool.{Bool, true, false}
 use mathlib.Core.List.{List, ◌++◌}
@@ -39,8 +40,6 @@ use Rattle.descent_preparation.specs.inner.Preparation.{sizes_of, SearchPrepared
 use Rattle.recognizer_promises.specs.Memory.{memo_words}
 use Rattle.recognizer_promises.specs.CostliestInput.{calls_on}
 use Rattle.answer.specs.declared.Error.{Error}
-use Rattle.families.specs.declared.Finding.{Finding}
-use Rattle.families.specs.declared.Finding.TheVariants.{Passed, Refused}
 use Rattle.recognizer_promises.specs.inner.Search.{SearchesWords, SearchGiven}
 use Rattle.recognizer_promises.proofs.CostliestFaults.{search_refused, part_fits, part_length, search_given, search_done}
 use Rattle.recognizer_promises.proofs.Judged.{memo_count}
@@ -136,18 +135,6 @@ module _ {words choices : List ℕ} {last inputs : ℕ} {events memo : List ℕ}
   few_inputs = omega (arith, exact, g.few)
 
   module _ {events₁ memo₁ : List ℕ} {t : Trials} (s : Searching words events memo events₁ memo₁ t) where
-    pub searching_given : TrialGiven words choices last events₁ memo₁
-    searching_given = record {
-      sizes = g.sizes;
-      taken = g.taken;
-      highest = g.highest;
-      free = g.free;
-      made = rw s.same_length g.made;
-      size = rw s.same_length (s.same_memo ∙ g.size);
-      short = omega (arith, s.same_length, g.short);
-      few = rw s.same_length g.few;
-    }
-
     pub searching_next : t.next < inputs → {calls : ℕ} {t' : Trials} {events₂ memo₂ : List ℕ} → Tried words (length events₁) t.next calls events₂ memo₂
         → length events₂ ≡ length events₁ → length memo₂ ≡ length memo₁
         → t' ≡ tried_next t calls
@@ -192,7 +179,7 @@ module _ {words : List ℕ} {k : ℕ} (log memo : List ℕ) {p : PreparedSearch}
   needed = p.entries
 
   -- a grammar that passes
-  module _ {z : Sizes} (q : p.found.finding ≡ Passed z) where
+  module _ {z : Sizes} (q : p.found.finding ≡ Ok z) where
     f : SearchGiven words z p.found.starts p.found.entries (take k log) memo
     f = search_given words k log memo m.finds q
 
@@ -257,22 +244,22 @@ module _ {words : List ℕ} {k : ℕ} (log memo : List ℕ) {p : PreparedSearch}
   pub prepared_refused : needed ≡ 0 → SearchesWords words k log memo p.found log memo
   prepared_refused e = go p.found.finding refl
     where
-      go : (f : Finding) → p.found.finding ≡ f → SearchesWords words k log memo p.found log memo
-      go (Passed z) q = absurd (omega (arith, needed_some q, e))
-      go (Refused x) q = search_refused words k log memo m.finds q
+      go : (f : Result Sizes Error) → p.found.finding ≡ f → SearchesWords words k log memo p.found log memo
+      go (Ok z) q = absurd (omega (arith, needed_some q, e))
+      go (Err x) q = search_refused words k log memo m.finds q
 
   -- with entries the search can begin
   module _ (some : needed ≡ 0 → ⊥) where
-    none : {x : Error} → p.found.finding ≡ Refused x → needed ≡ 0
+    none : {x : Error} → p.found.finding ≡ Err x → needed ≡ 0
     unfolding memo_entries
     none q = let e = m.needs ∙ ap (λ f. memo_entries (sizes_of f).nonterminals k) q in omega (arith, e)
 
-    passed : (z : Sizes) × (p.found.finding ≡ Passed z)
+    passed : (z : Sizes) × (p.found.finding ≡ Ok z)
     passed = go p.found.finding refl
       where
-        go : (f : Finding) → p.found.finding ≡ f → (z : Sizes) × (p.found.finding ≡ Passed z)
-        go (Passed z) q = (z, q)
-        go (Refused x) q = absurd (some (none q))
+        go : (f : Result Sizes Error) → p.found.finding ≡ f → (z : Sizes) × (p.found.finding ≡ Ok z)
+        go (Ok z) q = (z, q)
+        go (Err x) q = absurd (some (none q))
 
     pub log_fits : k ≤ length log
     log_fits = part_fits words k log memo m.finds passed.1

@@ -1,4 +1,5 @@
 -- The rule that is chosen: where it begins, and that its bodies are all still to be run.
+use Rattle.std.specs.Prelude.{Ok}
 use mathlib.Core.Path.{◌≡◌, refl, sym, ap, ◌∙◌}
 use mathlib.Core.Bool.{Bool, true, false, true≢false, false≢true}
 use mathlib.Core.List.Memᴰ
@@ -25,7 +26,6 @@ use Rattle.grammar.specs.declared.reading.State.{State}
 use Rattle.grammar.specs.declared.reading.State.TheVariants as state
 use Rattle.grammar.specs.declared.reading.Progress.{Progress}
 use Rattle.grammar.specs.declared.reading.Sizes.{Sizes}
-use Rattle.grammar.specs.declared.reading.Reading.TheVariants.{Read}
 use Rattle.grammar.proofs.Suffixes.{read_reaches, scan_next}
 use Rattle.grammar.proofs.WellRead.{well_read}
 use Rattle.semantics.specs.Choices.{Choice}
@@ -58,7 +58,7 @@ rule_opens word.End s e = absurd (false≢true e)
 rule_opens word.Invalid s e = absurd (false≢true e)
 
 -- the reading has reached a rule's begin, and goes on behind it
-pub begin_next : (words : List ℕ) (z : Sizes) → reading words ≡ Read z → (i : ℕ) → Begun words i
+pub begin_next : (words : List ℕ) (z : Sizes) → reading words ≡ Ok z → (i : ℕ) → Begun words i
     → (p : Progress) × (scan p (i + 1) (drop (i + 1) words) ≡ reading words) × (p.state ≡ state.Opened)
 begin_next words z read zero b = absurd (omega (arith, b.low))
 begin_next words z read (suc i) b =

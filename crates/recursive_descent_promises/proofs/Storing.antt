@@ -21,14 +21,10 @@ use Rattle.semantics.specs.inner.MemoDescent.{memoized, memo_obey, stored, memo_
 use Rattle.semantics.proofs.descent.Range.{index_range}
 use Rattle.semantics.proofs.descent.Written.{Sound}
 use Rattle.semantics.proofs.descent.Memo.{transparent}
-use Rattle.memo_table.proofs.Entries.{get_d_any}
+use Rattle.std.proofs.lemmas.List.{get_or_default}
 use Rattle.descent_arrays.specs.inner.Arrays.{row_at}
 use Rattle.recursive_descent_promises.specs.inner.Descent.{MemoSound, CallGiven, CallDone}
 use Rattle.recursive_descent_promises.proofs.Running.{deep, level}
-
-pub memo_same : {choice : Choice} {words input memo memo' : List ℕ} → MemoSound choice words input memo → MemoSound choice words input memo'
-    → length memo ≡ length memo'
-memo_same m m' = m.size ∙ sym m'.size
 
 -- the two ways to say that a memo table is sound
 sound_out : {choice : Choice} {words input memo : List ℕ} → MemoSound choice words input memo
@@ -86,7 +82,7 @@ module _ {choice : Choice} {words choices tokens input memo : List ℕ} {A place
     index_low = let l = index_range (grammar_of words) input (call_at A place) (g.named, g.placed) in omega (arith, index_is, g.given.sound.size)
 
     entry_is : entry input memo (call_at A place) ≡ get_or memo x 0
-    entry_is = get_d_any memo (memo_index input (call_at A place)) uncalled_code 0 (omega (arith, index_low, index_is))
+    entry_is = get_or_default memo (memo_index input (call_at A place)) uncalled_code 0 (omega (arith, index_low, index_is))
         ∙ ap (λ i. get_or memo i 0) (sym index_is)
 
     -- an entry that is written is returned

@@ -5,12 +5,14 @@ ghost use Rattle.refusal_text.specs.Refusal.{refusal_text};
 ghost use Rattle.text.specs.Writing.{Put};
 
 use answer::{Error, code, position};
-use text::put::{put_bytes, put_labelled};
+use text::Output;
 
 pub fn put_refusal(out: &mut [u8], at: usize, error: Error) -> usize
     ensures { Put out.old at (refusal_text error) out.new result }
 {
-    let at = put_labelled(out, at, b"refused ", code(error) as usize);
-    let at = put_labelled(out, at, b" ", position(error));
-    put_bytes(out, at, b"\n")
+    let mut output = Output { bytes: out, at };
+    output.put_labelled(b"refused ", code(error) as usize);
+    output.put_labelled(b" ", position(error));
+    output.put_bytes(b"\n");
+    output.at
 }

@@ -10,7 +10,7 @@ ghost use Rattle.report_texts.specs.Report.{SheetPrinted, JudgementPrinted, Gaps
 use answer::Error;
 use claims::analyze;
 use families::SETS;
-use file_words::{Loaded, load};
+use file_words::load;
 use gaps_text::put_gaps;
 use grammar::codes::{NO_ENTRY, NO_RULE, UNCALLED};
 use grammar::limits::{ENTRIES, MEMO_ENTRIES, RULES, TABLE_WORDS, WORDS};
@@ -31,8 +31,8 @@ pub fn sheet(bytes: &[u8], out: &mut [u8]) -> usize
     let mut words = [0u32; WORDS];
     let loaded = load(bytes, &mut words);
     match loaded {
-        Loaded::Words(n) => put_checked(&words[..n], out),
-        Loaded::NotWords => put_refusal(out, 0, Error::Length),
+        Some(n) => put_checked(&words[..n], out),
+        None => put_refusal(out, 0, Error::Length),
     }
 }
 
@@ -43,8 +43,8 @@ pub fn judgement(bytes: &[u8], events: &[u8], out: &mut [u8]) -> usize
     let mut words = [0u32; WORDS];
     let loaded = load(bytes, &mut words);
     match loaded {
-        Loaded::Words(n) => put_judged(&words[..n], events, out),
-        Loaded::NotWords => put_refusal(out, 0, Error::Length),
+        Some(n) => put_judged(&words[..n], events, out),
+        None => put_refusal(out, 0, Error::Length),
     }
 }
 
@@ -55,8 +55,8 @@ pub fn gaps(bytes: &[u8], out: &mut [u8]) -> usize
     let mut words = [0u32; WORDS];
     let loaded = load(bytes, &mut words);
     match loaded {
-        Loaded::Words(n) => put_claimed(&words[..n], out),
-        Loaded::NotWords => put_refusal(out, 0, Error::Length),
+        Some(n) => put_claimed(&words[..n], out),
+        None => put_refusal(out, 0, Error::Length),
     }
 }
 

@@ -1,4 +1,6 @@
 -- What is printed of words that are checked and of an input that is judged, from what is found of the words and what is lent.
+use Rattle.std.specs.Prelude.{Err, Ok, Result}
+use Rattle.grammar.specs.declared.reading.Sizes.{Sizes}
 use mathlib.Core.Path.{◌≡◌, refl, sym, ap, ap₂, subst, ◌∙◌}
 use mathlib.Core.List.{List}
 use mathlib.Core.Option.{Option, none, some}
@@ -13,12 +15,8 @@ use Rattle.event.proofs.Inputs.{input_length}
 use Rattle.grammar.specs.Limits.{max_tokens, max_memo_entries, max_table_words}
 use Rattle.grammar.specs.Encoding.{grammar_of}
 use Rattle.grammar.specs.Reading.{reading}
-use Rattle.grammar.specs.declared.reading.Reading.{Reading}
-use Rattle.grammar.specs.declared.reading.Reading.TheVariants.{Read, Faulty}
 use Rattle.grammar.proofs.WellRead.{well_read}
 use Rattle.lookahead.specs.declared.Lookahead.TheVariants.{One}
-use Rattle.families.specs.declared.Finding.{Finding}
-use Rattle.families.specs.declared.Finding.TheVariants.{Passed, Refused}
 use Rattle.families.specs.Analysis.{finding_of}
 use Rattle.table.specs.declared.Found.{Found}
 use Rattle.table_promises.specs.Analysis.{fault}
@@ -48,10 +46,10 @@ use Rattle.judgement_text.specs.inner.Sizes.{nonterminals_of, token_count}
 limited_found : (words : List ℕ) (f : Option Error) → limited_finding (finding_of f (reading words)) ≡ finding_of f (reading words)
 limited_found words f = go f (reading words) refl
   where
-    go : (f : Option Error) (o : Reading) → reading words ≡ o → limited_finding (finding_of f o) ≡ finding_of f o
+    go : (f : Option Error) (o : Result Sizes Error) → reading words ≡ o → limited_finding (finding_of f o) ≡ finding_of f o
     go (some x) o r = refl
-    go none (Faulty x) r = refl
-    go none (Read z) r = let k = well_read words z r in limited_same (record { few_nonterminals = k.few_nonterminals; few_terminals = k.few_terminals })
+    go none (Err x) r = refl
+    go none (Ok z) r = let k = well_read words z r in limited_same (record { few_nonterminals = k.few_nonterminals; few_terminals = k.few_terminals })
 
 -- what checking finds and lends
 module _ (words : List ℕ) (size : length blank_table ≡ max_table_words) {r : Found} (e : r ≡ found_of One words) where
@@ -68,9 +66,9 @@ module _ (words : List ℕ) (size : length blank_table ≡ max_table_words) {r :
   lent_checked : lent_of One r blank_table ≡ checked_table words
   lent_checked = go r.finding refl
     where
-      go : (f : Finding) → r.finding ≡ f → lent_of One r blank_table ≡ checked_table words
-      go (Passed z) p = let m = entries_told One words e p in lent_by m.faultless (lent_table m blank_table (omega arith) p)
-      go (Refused x) p = lent_by (found_fault (told One words e) p) (lent_nothing One r blank_table p)
+      go : (f : Result Sizes Error) → r.finding ≡ f → lent_of One r blank_table ≡ checked_table words
+      go (Ok z) p = let m = entries_told One words e p in lent_by m.faultless (lent_table m blank_table (omega arith) p)
+      go (Err x) p = lent_by (found_fault (told One words e) p) (lent_nothing One r blank_table p)
 
 -- there are as many tokens as events
 tokens_same : (events : List ℕ) → token_count events ≡ token_count (input_of events)

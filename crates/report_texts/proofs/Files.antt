@@ -1,4 +1,5 @@
 -- What loading a file tells of its words, and what is printed by whether there are any.
+use Rattle.std.specs.Prelude.{None, Option, Some}
 use mathlib.Core.Path.{◌≡◌, refl, sym, ap, ap₂, ◌∙◌}
 use mathlib.Core.Bool.{Bool, true, false}
 use mathlib.Core.List.{List}
@@ -20,8 +21,6 @@ use Rattle.base.specs.Choice.{choose}
 use Rattle.recognizer_promises.specs.Answers.{judge_fault}
 use Rattle.recognizer_promises.specs.Properties.{Judges}
 use Rattle.recognizer_promises.proofs.Judged.{judges}
-use Rattle.file_words.specs.declared.Loaded.{Loaded}
-use Rattle.file_words.specs.declared.Loaded.TheVariants.{Words, NotWords}
 use Rattle.file_words.specs.Words.{bytes_of_word, words_of, are_words}
 use Rattle.file_words.specs.inner.Words.{Loading}
 use Rattle.text.specs.Writing.{Put}
@@ -45,7 +44,7 @@ pub record FoundWords (bytes after : List ℕ) (n : ℕ) : Type 0 where
   pub part : n ≡ length (take n after)
   pub words : take n after ≡ words_of bytes
 
-pub found : {bytes before after : List ℕ} {r : Loaded} {n : ℕ} → Loading bytes before r after → r ≡ Words n → length before ≡ max_words
+pub found : {bytes before after : List ℕ} {r : Option ℕ} {n : ℕ} → Loading bytes before r after → r ≡ Some n → length before ≡ max_words
     → FoundWords bytes after n
 unfolding are_words
 found {bytes} {before} {after} {r} {n} l told size = go (are_words bytes) refl
@@ -66,7 +65,7 @@ found {bytes} {before} {after} {r} {n} l told size = go (are_words bytes) refl
         }
     go false e = let z : ◌≡◌ {A = ℕ} 0 1 = cc (rw e at l.told) in absurd (omega arith)
 
-pub not_found : {bytes before after : List ℕ} {r : Loaded} → Loading bytes before r after → r ≡ NotWords → are_words bytes ≡ false
+pub not_found : {bytes before after : List ℕ} {r : Option ℕ} → Loading bytes before r after → r ≡ None → are_words bytes ≡ false
 not_found {bytes} {before} {after} {r} l told = go (are_words bytes) refl
   where
     go : (b : Bool) → are_words bytes ≡ b → are_words bytes ≡ false

@@ -1,4 +1,6 @@
 -- Every sheet and every judgement has room in the buffers that the programs lend.
+use Rattle.std.specs.Prelude.{Err, Ok, Result}
+use Rattle.grammar.specs.declared.reading.Sizes.{Sizes}
 use mathlib.Core.Path.{◌≡◌, refl}
 use mathlib.Core.Bool.{Bool, true, false}
 use mathlib.Core.List.{List, [], ◌∷◌, ◌++◌, map, Memᴰ}
@@ -14,8 +16,6 @@ use Rattle.grammar.specs.Limits.{max_memo_entries, max_table_words}
 use Rattle.grammar.specs.Syntax.{Grammar}
 use Rattle.grammar.specs.Encoding.{grammar_of}
 use Rattle.grammar.specs.Reading.{reading}
-use Rattle.grammar.specs.declared.reading.Reading.{Reading}
-use Rattle.grammar.specs.declared.reading.Reading.TheVariants.{Read, Faulty}
 use Rattle.grammar.proofs.WellRead.{well_read}
 use Rattle.base.specs.FiniteSets.{member}
 use Rattle.semantics.specs.Choices.{table_choice}
@@ -53,10 +53,10 @@ checked_short words = go (check_fault One max_table_words words) (reading words)
     table : Option Error → List ℕ
     table f = lent_back f (table_words One (grammar_of words)) blank_table
 
-    go : (f : Option Error) (o : Reading) → reading words ≡ o → length (check_text (finding_of f o) (table f)) ≤ sheet_room
+    go : (f : Option Error) (o : Result Sizes Error) → reading words ≡ o → length (check_text (finding_of f o) (table f)) ≤ sheet_room
     go (some e) o r = omega (arith, refusal_most e)
-    go none (Faulty e) r = omega (arith, refusal_most e)
-    go none (Read z) r =
+    go none (Err e) r = omega (arith, refusal_most e)
+    go none (Ok z) r =
         let k = well_read words z r in sheet_most (table none) (record { few_nonterminals = k.few_nonterminals; few_terminals = k.few_terminals })
 
 -- lists of numbers of at most five digits

@@ -15,11 +15,11 @@ use lookahead_sets::LookaheadSet;
 use word::{Symbol, Word, decode};
 
 // The set of n. A greater number than nonterminals have stands in no grammar that is read: it is counted round, which takes no test.
+#[tactic(auto, unfolding(families::specs::inner::Least::lookup))]
 fn set_of(sets: &[u64; SETS], n: u32) -> u64
     ensures { result ≡ lookup sets.now n }
 {
-    let at = n as usize % SETS;
-    sets[at]
+    sets[n as usize % SETS]
 }
 
 // Where neither a body nor a rule is open.
@@ -33,6 +33,7 @@ fn no_rest(terminals: u32, lookahead: Lookahead) -> Rest
 }
 
 // The first set of a symbol, with rest behind it.
+#[tactic(auto, unfolding(families::specs::inner::First::symbol_first))]
 fn behind(
     symbol: Symbol,
     firsts: &[u64; SETS],
@@ -91,11 +92,8 @@ pub fn rule_first(
         ≡ (fold_from_end (inside_word lookahead (lookup firsts.now)) (no_rest lookahead terminals) words.now).meet.bits }
 {
     let mut rest = no_rest(terminals, lookahead);
-    let mut at = words.len();
-    while 0 < at {
-        at = at - 1;
-        let word = decode(words[at]);
-        rest = inside(word, rest, firsts, lookahead);
+    for &bits in words.iter().rev() {
+        rest = inside(decode(bits), rest, firsts, lookahead);
     }
     rest.meet
 }

@@ -1,37 +1,19 @@
 -- A body goes on behind a symbol, and ends where none stands.
 use mathlib.Core.Path.{◌≡◌, refl}
 use mathlib.Core.Bool.{true, false, false≢true}
-use mathlib.Core.List.{List, [], ◌∷◌}
-use mathlib.Core.Logic.{⊎_elim}
+use mathlib.Core.List.{List}
 use Prim.Native.Nat.{ℕ, ◌+◌, ◌≤◌, ◌<◌}
 use native.Mathlib.Omega.{arith}
 use native.Mathlib.Numerals.{add-one}
-use denote.Enum.Declared.{tag_of}
-use types.Run.{OneOf}
 use lib.ListN.{length, get_or, drop_of_length-le}
 use lib.Seq.{drop-cons}
-use Rattle.word.specs.contracts.Word.{the_type}
 use Rattle.word.specs.Words.{decoded}
 use Rattle.word.specs.declared.Symbol as grammar
 use Rattle.word.specs.declared.Word.{Word}
 use Rattle.word.specs.declared.Word.TheVariants.{Heading, Rule, Positive, Negative, Symbol, End, Invalid}
 use Rattle.rule.specs.inner.Rule.{is_symbol, symbols_first, body_end}
 
--- the symbol that a word is, by its tag or by the test
-pub is_symbol_lem : (w : Word) → tag_of the_type w ≡ 4 → (X : grammar.Symbol) × (w ≡ Symbol X)
-is_symbol_lem (Heading n t) e = absurd (omega arith)
-is_symbol_lem (Rule A) e = absurd (omega arith)
-is_symbol_lem Positive e = absurd (omega arith)
-is_symbol_lem Negative e = absurd (omega arith)
-is_symbol_lem (Symbol X) e = (X, refl)
-is_symbol_lem End e = absurd (omega arith)
-is_symbol_lem Invalid e = absurd (omega arith)
-
-pub no_symbol : (w : Word) → OneOf (0 ∷ 1 ∷ 2 ∷ 3 ∷ 5 ∷ 6 ∷ []) (tag_of the_type w) → (X : grammar.Symbol) → w ≡ Symbol X → ⊥
-no_symbol w t X e =
-    ⊎_elim (λ e. omega arith) (⊎_elim (λ e. omega arith) (⊎_elim (λ e. omega arith) (⊎_elim (λ e. omega arith) (⊎_elim (λ e. omega arith) (λ e. omega arith)))))
-    (rw e at t)
-
+-- the symbol that a word is, by the test
 pub tested_symbol : (w : Word) → is_symbol w ≡ true → (X : grammar.Symbol) × (w ≡ Symbol X)
 tested_symbol (Heading n t) e = absurd (false≢true e)
 tested_symbol (Rule A) e = absurd (false≢true e)

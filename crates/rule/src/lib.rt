@@ -26,12 +26,13 @@ pub fn body_end(words: &[u32], from: usize) -> usize
     ensures { result ≡ body_end words.now from }
 {
     let mut at = from;
+    // A range would keep an index of its own beside the one that is returned, and the descent one register more.
     while at < words.len() {
         let word = decode(words[at]);
         let Word::Symbol(_) = word else {
             return at;
         };
-        at = at + 1;
+        at += 1;
     }
     at
 }
@@ -41,9 +42,8 @@ pub fn opening(sign: Sign, end: u16) -> u16
     ensures { result ≡ agreement_code (opening_by sign end) }
 {
     match sign {
-        Sign::Positive => OPEN,
         Sign::Negative => end,
-        Sign::Neither => OPEN,
+        Sign::Positive | Sign::Neither => OPEN,
     }
 }
 
@@ -78,6 +78,7 @@ fn kept(sign: Sign, end: u16, there: bool) -> u16
 }
 
 // The agreement after one body more, by the entry of its outcome: an open agreement becomes that entry.
+#[tactic(auto, using(crate::proofs::Agreements::joined_open, crate::proofs::Agreements::joined_kept))]
 pub fn joined(sign: Sign, agreement: u16, entry: u16) -> u16
     ensures { result ≡ agreement_code (joined_by sign (agreement_of agreement) (outcome_of entry)) }
 {

@@ -1,6 +1,6 @@
 // Arrays of sets, one for each nonterminal, and the stores into them. A greater number than nonterminals have stands in no grammar that is read: it is
 // counted round, which takes no test.
-ghost use Rattle.std.specs.Prelude.{◌≡◌, ◌||◌, ◌%◌};
+ghost use Rattle.std.specs.Prelude.{◌≡◌, ◌%◌};
 ghost use Rattle.grammar.specs.Limits.{max_nonterminals};
 ghost use Rattle.families.specs.inner.Least.{joined_at, AddsToSet};
 
@@ -16,7 +16,7 @@ pub fn add(sets: &mut [u64; SETS], n: u32, set: LookaheadSet) -> bool
     let old = LookaheadSet { bits: sets[at] };
     let new = old.join(set);
     sets[at] = new.bits;
-    new.bits != old.bits
+    new != old
 }
 
 // The same for sets of nonterminals, without telling.
@@ -26,11 +26,4 @@ pub fn add_nonterminals(sets: &mut [u32; SETS], n: u32, set: Nonterminals)
     let at = n as usize % SETS;
     let before = Nonterminals { bits: sets[at] };
     sets[at] = before.join(set).bits;
-}
-
-// Whether one or the other has grown.
-pub fn either(one: bool, other: bool) -> bool
-    ensures { result ≡ (one || other) }
-{
-    if one { true } else { other }
 }

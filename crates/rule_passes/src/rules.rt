@@ -17,7 +17,7 @@ const LAST: u32 = 13;
 pub fn goes_forward(pass: u32) -> bool
     ensures { result ≡ (eqb pass 1 || ltb 2 pass) }
 {
-    if pass == 1 { true } else { 2 < pass }
+    pass == 1 || 2 < pass
 }
 
 pub fn next_pass(pass: u32) -> u32
@@ -26,14 +26,14 @@ pub fn next_pass(pass: u32) -> u32
     if pass < LAST { pass + 1 } else { 2 }
 }
 
-// The rule that a pass reaches behind others: it goes from the first rule on, or from the last on.
+// The rule that a pass reaches behind others: it goes from the first rule on, or from the last on. The directions would be iterators of two types,
+// and each pass would be written twice.
 pub fn turn(forward: bool, rules: usize, passed: usize) -> usize
     ensures { result ≡ turn_of forward rules passed }
 {
     if forward {
-        return passed;
-    }
-    if passed < rules {
+        passed
+    } else if passed < rules {
         rules - 1 - passed
     } else {
         0
@@ -56,23 +56,15 @@ pub fn end_of(words: &[u32], starts: &[usize; RULES], sizes: Sizes, rule: usize)
 pub fn head_of(word: Word) -> u32
     ensures { result ≡ head_of word }
 {
-    let Word::Rule(head) = word else {
-        return 0;
-    };
-    head
+    if let Word::Rule(head) = word { head } else { 0 }
 }
 
 // Where the first negative begins among words of a rule, or how many words there are where there is none.
 pub fn negatives_in(words: &[u32]) -> usize
     ensures { NegativesFrom words.now 0 (length words.now) result }
 {
-    let mut at = 0;
-    while at < words.len() {
-        let word = decode(words[at]);
-        if let Word::Negative = word {
-            return at;
-        }
-        at = at + 1;
-    }
-    at
+    words
+        .iter()
+        .position(|&bits| matches!(decode(bits), Word::Negative))
+        .unwrap_or(words.len())
 }

@@ -12,6 +12,7 @@ use rule_passes::rules::head_of;
 use word::decode;
 
 // The nonterminal of the rule that begins at an index; 0 where no rule does.
+#[tactic(auto, using(tabular_promises::proofs::RuleRanks::no_head))]
 fn head_at(words: &[u32], from: usize) -> u32
     ensures { result ≡ head_at words.now from }
 {
@@ -27,10 +28,11 @@ fn rank_at(words: &[u32], from: usize, reaches: &[u32; SETS]) -> usize
     ensures { result ≡ rank_from words.now reaches.now from }
 {
     let head = head_at(words, from) as usize;
-    (u32::count_ones(reaches[head % SETS]) % NONTERMINALS) as usize
+    (reaches[head % SETS].count_ones() % NONTERMINALS) as usize
 }
 
-// The last rule of each rank, and for each rule the one of its rank before it. They are counted from 1, and 0 stands for none.
+// The last rule of each rank, and for each rule the one of its rank before it. They are counted from 1, and 0 stands for none: any number of rules may be
+// given, so an option of a small number would not hold each, and one of a word would take twice the room, which is made blank for each input.
 #[derive(Drop)]
 pub struct RankedRules {
     pub lasts: [usize; SETS],
@@ -49,13 +51,11 @@ pub fn by_rank(
 {
     let mut lasts = [0usize; SETS];
     let mut befores = [0usize; RULES];
-    let mut rule = 0;
-    while rule < rules {
+    for rule in 0..rules {
         let at = rule % RULES;
         let rank = rank_at(words, starts[at], reaches);
         befores[at] = lasts[rank];
-        rule = rule + 1;
-        lasts[rank] = rule;
+        lasts[rank] = rule + 1;
     }
     RankedRules { lasts, befores }
 }

@@ -1,8 +1,7 @@
 // A rule asked at one span, by a pass over its words from their end.
 #![tactic(auto)]
 
-ghost use Rattle.std.specs.Prelude.{◌≡◌, false, ◌≤◌, ◌<◌, length};
-ghost use Rattle.base.specs.Choice.{choose};
+ghost use Rattle.std.specs.Prelude.{◌≡◌, ◌≤◌, ◌<◌, length};
 ghost use Rattle.tabular_promises.specs.inner.Scanning.{none_open, before_terminal, before_symbol, scan_onto, keeps_by, asked_by};
 
 use chart::places::{contains, one_place};
@@ -27,6 +26,7 @@ fn none_open(end: usize) -> Scan
 }
 
 // The places where the terminal stands, with a place of the set behind it.
+#[tactic(auto, unfolding(tabular_promises::specs::inner::Scanning::before_terminal))]
 fn before_terminal(stands: &[u64; STANDS], terminal: u32, set: u64) -> u64
     ensures { result ≡ before_terminal stands.now terminal set }
 {
@@ -53,20 +53,7 @@ fn before_symbol(
     }
 }
 
-// The conjuncts of a rule with one more: a positive one has to contain the span, a negative one not.
-fn kept_positive(there: bool, kept: bool) -> bool
-    ensures { result ≡ choose there kept false }
-{
-    if there { kept } else { false }
-}
-
-fn kept_negative(there: bool, kept: bool) -> bool
-    ensures { result ≡ choose there false kept }
-{
-    if there { false } else { kept }
-}
-
-// The scan with a word in front.
+// The scan with a word in front. A conjunct that it begins has to contain the span if it is positive, and not if it is negative.
 fn onto(
     word: Word,
     scan: Scan,
@@ -86,19 +73,14 @@ fn onto(
         },
         Word::Positive => Scan {
             set: one_place(end),
-            kept: kept_positive(contains(set, start), kept),
+            kept: contains(set, start) && kept,
         },
         Word::Negative => Scan {
             set: one_place(end),
-            kept: kept_negative(contains(set, start), kept),
+            kept: !contains(set, start) && kept,
         },
-        Word::Rule(_) => none_open(end),
-        Word::End => none_open(end),
-        Word::Heading {
-            nonterminals: _,
-            terminals: _,
-        } => scan,
-        Word::Invalid => scan,
+        Word::Rule(_) | Word::End => none_open(end),
+        _ => scan,
     }
 }
 
@@ -116,9 +98,7 @@ fn keeps(
     ensures { result ≡ keeps_by words.now from to stands.now chart.now start end }
 {
     let mut scan = none_open(end);
-    let mut at = to;
-    while from + 1 < at {
-        at = at - 1;
+    for at in (from + 1..to).rev() {
         let word = decode(words[at]);
         scan = onto(word, scan, stands, chart, start, end);
     }
@@ -132,13 +112,13 @@ pub fn ask(
     starts: &[usize; RULES],
     sizes: Sizes,
     rule: usize,
-    found: u32,
+    found: Nonterminals,
     stands: &[u64; STANDS],
     chart: &[u64; CHART],
     start: usize,
     end: usize,
-) -> u32
-    ensures { result ≡ asked_by words.now starts.now sizes.rules rule stands.now chart.now start end found }
+) -> Nonterminals
+    ensures { result.bits ≡ asked_by words.now starts.now sizes.rules rule stands.now chart.now start end found.bits }
 {
     let from = starts[rule % RULES];
     let to = end_of(words, starts, sizes, rule);
@@ -149,8 +129,7 @@ pub fn ask(
         return found;
     }
     let head = head_of(decode(words[from]));
-    let known = Nonterminals { bits: found };
-    if known.contains(head) {
+    if found.contains(head) {
         return found;
     }
     let there = keeps(words, from, to, stands, chart, start, end);

@@ -12,13 +12,12 @@ use word::{Word, decode};
 fn note(starts: &mut [usize; RULES], rules: usize, at: usize, word: Word) -> usize
     ensures { StartNoted starts.old rules at word starts.new result }
 {
-    if begins_rule(word) {
-        if rules < RULES {
-            starts[rules] = at;
-            return rules + 1;
-        }
+    if begins_rule(word) && rules < RULES {
+        starts[rules] = at;
+        rules + 1
+    } else {
+        rules
     }
-    rules
 }
 
 // Where each rule begins, by index; zero for rules that are not there. What stood there is gone.
@@ -27,10 +26,7 @@ pub fn rule_starts(words: &[u32], starts: &mut [usize; RULES])
 {
     *starts = [0usize; RULES];
     let mut rules = 0;
-    let mut at = 0;
-    while at < words.len() {
-        let word = decode(words[at]);
-        rules = note(starts, rules, at, word);
-        at = at + 1;
+    for (at, &bits) in words.iter().enumerate() {
+        rules = note(starts, rules, at, decode(bits));
     }
 }

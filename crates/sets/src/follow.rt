@@ -1,6 +1,5 @@
 // Follow sets: passes over the rules, in both directions by turns, until one adds nothing; the words of a rule from their end.
-ghost use Rattle.std.specs.Prelude.{◌≡◌, suc, ◌<◌, length, drop, replicate};
-ghost use Rattle.grammar.specs.declared.reading.Reading.TheVariants.{Read};
+ghost use Rattle.std.specs.Prelude.{Ok, ◌≡◌, suc, ◌<◌, length, drop, replicate};
 ghost use Rattle.grammar.specs.Encoding.{parse, grammar_of};
 ghost use Rattle.grammar.specs.Limits.{max_nonterminals};
 ghost use Rattle.grammar.specs.inner.Starts.{rule_starts};
@@ -19,7 +18,7 @@ use grammar::reading::Sizes;
 use lookahead::Lookahead;
 use lookahead_sets::LookaheadSet;
 use rests::tail_before;
-use rule_passes::family::{add, either};
+use rule_passes::family::add;
 use rule_passes::rules::{end_of, head_of, negatives_in, turn};
 use word::{Symbol, Word, decode};
 
@@ -56,11 +55,9 @@ fn follow_bodies(
     let behind = concat(LookaheadSet::end(lookahead), lookahead, set);
     let mut grown = false;
     let mut tail = behind;
-    let mut at = to;
-    while from < at {
-        at = at - 1;
+    for at in (from..to).rev() {
         let word = decode(words[at]);
-        grown = either(grown, add_behind(word, tail, follows));
+        grown |= add_behind(word, tail, follows);
         tail = tail_before(word, tail, behind, firsts, lookahead);
     }
     grown
@@ -91,11 +88,12 @@ fn follow_rule(
     let negatives = inside + negatives_in(&words[inside..end]);
     let by_negatives = follow_bodies(words, negatives, end, follow, firsts, follows, lookahead);
     let by_positives = follow_bodies(words, inside, negatives, follow, firsts, follows, lookahead);
-    either(by_negatives, by_positives)
+    by_negatives | by_positives
 }
 
 // One pass over the rules, from the first on or from the last on; whether a set has grown. What follows its head when a rule has its turn is kept
 // for the next pass.
+#[tactic(auto, using(families::proofs::RulePlaces::rule_places))]
 fn follow_rules(
     words: &[u32],
     starts: &[usize; RULES],
@@ -113,19 +111,14 @@ fn follow_rules(
         × LastTurns lookahead (family firsts.now) words.now sizes.rules last.new follows.new }
 {
     let mut grown = false;
-    let mut passed = 0;
-    while passed < sizes.rules {
+    for passed in 0..sizes.rules {
         let rule = turn(forward, sizes.rules, passed);
         let start = starts[rule];
         let end = end_of(words, starts, sizes, rule);
         let head = head_of(decode(words[start]));
         let before = last[rule];
         last[rule] = follows[head as usize];
-        grown = either(
-            grown,
-            follow_rule(words, start, end, head, before, firsts, follows, lookahead),
-        );
-        passed = passed + 1;
+        grown |= follow_rule(words, start, end, head, before, firsts, follows, lookahead);
     }
     grown
 }
@@ -148,12 +141,10 @@ fn follow_pass(
         × LastTurns lookahead (family firsts.now) words.now sizes.rules last.new follows.new }
 {
     let began = add(follows, 0, LookaheadSet::end(lookahead));
-    either(
-        began,
-        follow_rules(
+    began
+        | follow_rules(
             words, starts, sizes, firsts, follows, last, forward, lookahead,
-        ),
-    )
+        )
 }
 
 // The follow sets of a grammar that is admitted, one for each nonterminal, where empty ones stand.
@@ -165,12 +156,13 @@ pub(crate) fn follow_sets(
     follows: &mut [u64; SETS],
     lookahead: Lookahead,
 )
-    requires { (admission lookahead words.now ≡ Read sizes) × (starts.now ≡ rule_starts words.now)
+    requires { (admission lookahead words.now ≡ Ok sizes) × (starts.now ≡ rule_starts words.now)
         × (firsts.now ≡ listed max_nonterminals (first_number lookahead (grammar_of words.now))) × (follows.old ≡ replicate max_nonterminals 0) }
     ensures { follows.new ≡ listed max_nonterminals (follow_number lookahead (grammar_of words.now)) }
 {
     let mut last = [0u64; RULES];
     let mut forward = true;
+    // How many passes there are is known only when one adds nothing.
     while follow_pass(
         words, starts, sizes, firsts, follows, &mut last, forward, lookahead,
     ) {

@@ -1,8 +1,7 @@
 -- The sheet of a grammar (document 01: the sheet), line by line, from the words of its table.
-use Rattle.std.specs.Prelude.{List, ◌++◌, ℕ, ◌+◌, ◌*◌}
+use Rattle.std.specs.Prelude.{Err, Ok, Result, List, ◌++◌, ℕ, ◌+◌, ◌*◌}
+use Rattle.answer.specs.declared.Error.{Error}
 use Rattle.grammar.specs.declared.reading.Sizes.{Sizes}
-use Rattle.families.specs.declared.Finding.{Finding}
-use Rattle.families.specs.declared.Finding.TheVariants.{Passed, Refused}
 use Rattle.text.specs.Ascii.{ascii}
 use Rattle.text.specs.Writing.{up_to}
 use Rattle.refusal_text.specs.Refusal.{refusal_text}
@@ -22,6 +21,6 @@ unfoldable pub sheet_text : Sizes → List ℕ → List ℕ
 sheet_text z table = sizes_line z ++ up_to z.nonterminals (nonterminal_text z table)
 
 -- what is printed of a check, by what is found: the refusal, or the sheet
-abbrev pub check_text : Finding → List ℕ → List ℕ
-check_text (Refused e) table = refusal_text e
-check_text (Passed z) table = sheet_text z table
+abbrev pub check_text : Result Sizes Error → List ℕ → List ℕ
+check_text (Err e) table = refusal_text e
+check_text (Ok z) table = sheet_text z table

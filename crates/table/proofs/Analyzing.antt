@@ -1,4 +1,5 @@
 -- What is found of an encoded grammar, by its claims and by the first clash.
+use Rattle.std.specs.Prelude.{None, Option, Some, Err, Ok}
 use mathlib.Core.Path.{◌≡◌, sym, ap, ◌∙◌}
 use mathlib.Core.List.{List}
 use mathlib.Core.Option.{none, some}
@@ -10,7 +11,6 @@ use Rattle.grammar.specs.Encoding.{grammar_of}
 use Rattle.grammar.specs.inner.Starts.{rule_starts}
 use Rattle.grammar.specs.Limits.{max_nonterminals}
 use Rattle.grammar.specs.declared.reading.Sizes.{Sizes}
-use Rattle.grammar.specs.declared.reading.Reading.TheVariants.{Read}
 use Rattle.grammar.specs.inner.WellRead.{WellRead}
 use Rattle.grammar.proofs.WellRead.{well_read}
 use Rattle.lookahead.specs.declared.Lookahead.{Lookahead}
@@ -20,15 +20,12 @@ use Rattle.admission.specs.Admission.{admission}
 use Rattle.base.specs.FiniteSets.{numbers_below}
 use Rattle.semantics.specs.Claims.{overruns}
 use Rattle.semantics.proofs.descent.Outcomes.{nth_mem}
-use Rattle.families.specs.declared.Finding.TheVariants.{Passed, Refused}
 use Rattle.families.specs.Analysis.{sets_fault}
 use Rattle.families.specs.inner.Analysis.{starts_if, sets_if}
 use Rattle.base.specs.Lists.{listed}
 use Rattle.families.specs.Sets.{first_number, follow_number}
 use Rattle.base.proofs.Lists.{listed_at, listed_long}
 use Rattle.families.proofs.Findings.{told_passed, told_refused}
-use Rattle.table_promises.specs.declared.Conflict.{Conflict}
-use Rattle.table_promises.specs.declared.Conflict.TheVariants as conflict
 use Rattle.table.specs.declared.Found.{Found}
 use Rattle.claims.specs.inner.Claims.{Claims, claims_of, Headed}
 use Rattle.claims.specs.inner.Overruns.{overrun_set}
@@ -46,7 +43,7 @@ use Rattle.table.proofs.EntriesFilled.{entries_filled}
 
 module _ (k : Lookahead) (words : List ℕ) {r : Claims} (e : r ≡ claims_of k words) where
   -- a refusal goes on
-  pub found_refused : {x : Error} → r.finding ≡ Refused x → found_with r.finding r.starts r.firsts r.follows no_rules ≡ found_of k words
+  pub found_refused : {x : Error} → r.finding ≡ Err x → found_with r.finding r.starts r.firsts r.follows no_rules ≡ found_of k words
   unfolding claims_of found_of
   found_refused {x} q =
       let f : sets_fault k words ≡ some x = told_refused (sets_fault k words) (admission k words) (sets_first k words) (sym (ap (λ x. x.finding) e) ∙ q) in
@@ -80,22 +77,22 @@ module _ {k : Lookahead} {words : List ℕ} {z : Sizes} {r : Claims} (f : Claime
       ap (λ l. get_or l A 0) f.told
       ∙ listed_at max_nonterminals (λ A. overrun_set k (overruns (grammar_of words) (tokens k) A)) A (omega (arith, known.nonterminals, known.few_nonterminals))
 
-  module _ {v : Conflict} (d : v ≡ conflict_of k z r.heads r.sets r.overruns) where
+  module _ {v : Option (ℕ × ℕ)} (d : v ≡ conflict_of k z r.heads r.sets r.overruns) where
     clash : v ≡ first_clash k (grammar_of words)
     clash =
         (rw (known.nonterminals, known.terminals, known.rules) at d)
         ∙ clash_found k (grammar_of words) grammar_few r.overruns f.own f.claims each_told
 
     -- a clash refuses the grammar
-    pub found_clash : {A c : ℕ} {x : Error} → v ≡ conflict.At A c → x ≡ conflict_error k A c
-        → found_with (Refused x) r.starts r.firsts r.follows no_rules ≡ found_of k words
+    pub found_clash : {A c : ℕ} {x : Error} → v ≡ Some (A, c) → x ≡ conflict_error k A c
+        → found_with (Err x) r.starts r.firsts r.follows no_rules ≡ found_of k words
     unfolding found_of
     found_clash t d = rw (d, fault_sets k words, f.read, f.faultless, ← clash, t, f.begins, f.first, f.follow)
 
     -- else its entries are found
-    pub found_passed : {entries : List ℕ} → v ≡ conflict.Absent
+    pub found_passed : {entries : List ℕ} → v ≡ None
         → FilledRows (rows_of k z.nonterminals z.terminals) r.heads r.sets 0 (numbers_below z.rules) no_rules entries
-        → found_with (Passed z) r.starts r.firsts r.follows entries ≡ found_of k words
+        → found_with (Ok z) r.starts r.firsts r.follows entries ≡ found_of k words
     unfolding found_of
     found_passed t w =
         let G = grammar_of words in
@@ -105,7 +102,7 @@ module _ {k : Lookahead} {words : List ℕ} {z : Sizes} {r : Claims} (f : Claime
 
 -- what entries that are found tell
 pub record FoundEntries (k : Lookahead) (words : List ℕ) (z : Sizes) (r : Found) : Type 0 where
-  pub read : admission k words ≡ Read z
+  pub read : admission k words ≡ Ok z
   pub faultless : fault k words ≡ none
   pub begins : r.starts ≡ rule_starts words
   pub first : r.firsts ≡ listed max_nonterminals (first_number k (grammar_of words))
@@ -113,7 +110,7 @@ pub record FoundEntries (k : Lookahead) (words : List ℕ) (z : Sizes) (r : Foun
   pub entries : r.entries ≡ entries_of k (grammar_of words)
 
 module _ (k : Lookahead) (words : List ℕ) {r : Found} (e : r ≡ found_of k words) where
-  pub entries_told : {z : Sizes} → r.finding ≡ Passed z → FoundEntries k words z r
+  pub entries_told : {z : Sizes} → r.finding ≡ Ok z → FoundEntries k words z r
   unfolding found_of
   entries_told q =
       let p = told_passed (fault k words) (admission k words) (sym (ap (λ x. x.finding) e) ∙ q) in

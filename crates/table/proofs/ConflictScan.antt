@@ -1,4 +1,5 @@
 -- Entries are looked through by nonterminal, then column: the loops' turns, and what is found is the first clash.
+use Rattle.std.specs.Prelude.{None, Option, Some}
 use mathlib.Core.Path.{◌≡◌, refl, ap, ap₂, ◌∙◌}
 use mathlib.Core.Bool.{Bool, true, false, ◌||◌}
 use mathlib.Core.List.{List}
@@ -13,15 +14,13 @@ use Rattle.lookahead.specs.inner.Lookaheads.{alphabet}
 use Rattle.lookahead.specs.inner.Operations.{is_empty}
 use Rattle.lookahead.proofs.Emptiness.{empty_none}
 use Rattle.semantics.specs.Claims.{several, claims, overruns, clashing}
-use Rattle.table_promises.specs.declared.Conflict.{Conflict}
-use Rattle.table_promises.specs.declared.Conflict.TheVariants.{Absent, At}
 use Rattle.columns.specs.Columns.{column_string, columns}
 use Rattle.columns.specs.inner.Columns.{column_element}
 use Rattle.claims.specs.inner.Claims.{heads_of, claim_numbers}
 use Rattle.families.specs.inner.RuleLists.{by_rule}
 use Rattle.claims.specs.inner.Overruns.{overrun_set}
 use Rattle.table_promises.specs.Conflicts.{row_conflict, or_later, conflict_from, first_clash}
-use Rattle.table.specs.inner.Conflicts.{in_set, in_sets, claimed_twice, Twice}
+use Rattle.table.specs.inner.Conflicts.{in_set, claimed_twice}
 use Rattle.columns.proofs.ColumnStrings.{column_string_lem, element_small}
 use Rattle.claims.proofs.Claimants.{several_claims, told as rules_told}
 use Rattle.table.proofs.OverrunColumns.{overrun_column}
@@ -31,7 +30,7 @@ module _ (p : ℕ → Bool) (A : ℕ) {c m : ℕ} (h : c < m) where
   one_less : m - c ≡ suc (m - (c + 1))
   one_less = omega arith
 
-  pub column_here : p c ≡ true → row_conflict p A c (m - c) ≡ At A c
+  pub column_here : p c ≡ true → row_conflict p A c (m - c) ≡ Some (A, c)
   unfolding row_conflict
   column_here e = rw (one_less, e)
 
@@ -40,48 +39,35 @@ module _ (p : ℕ → Bool) (A : ℕ) {c m : ℕ} (h : c < m) where
   column_later e = rw (one_less, e, add-one c)
 
 -- where the set is empty there is no such column
-pub column_empty : (element : ℕ → ℕ) (s A c n : ℕ) → is_empty s ≡ true → row_conflict (in_set element s) A c n ≡ Absent
+pub column_empty : (element : ℕ → ℕ) (s A c n : ℕ) → is_empty s ≡ true → row_conflict (in_set element s) A c n ≡ None
 unfolding row_conflict
 column_empty element s A c zero e = refl
 column_empty element s A c (suc n) e = rw (empty_none s (element c) e) (column_empty element s A (suc c) n e)
 
-pub column_all : (p : ℕ → Bool) (A n : ℕ) → row_conflict p A 0 (n - 0) ≡ row_conflict p A 0 n
-column_all p A n = let e : n - 0 ≡ n = omega arith in rw e
-
-pub column_none : (p : ℕ → Bool) (A c m : ℕ) → m ≤ c → row_conflict p A c (m - c) ≡ Absent
+pub column_none : (p : ℕ → Bool) (A c m : ℕ) → m ≤ c → row_conflict p A c (m - c) ≡ None
 unfolding row_conflict
 column_none p A c m h = let e : m - c ≡ 0 = omega arith in rw e
 
 -- one turn of the loop over the rows
-module _ (p : ℕ → ℕ → Bool) (columns : ℕ) {A n : ℕ} (h : A < n) {r : Conflict} (row : r ≡ row_conflict (p A) A 0 columns) where
+module _ (p : ℕ → ℕ → Bool) (columns : ℕ) {A n : ℕ} (h : A < n) {r : Option (ℕ × ℕ)} (row : r ≡ row_conflict (p A) A 0 columns) where
   row_less : n - A ≡ suc (n - (A + 1))
   row_less = omega arith
 
-  pub row_here : (r ≡ Absent → ⊥) → conflict_from p columns A (n - A) ≡ r
+  pub row_here : (r ≡ None → ⊥) → conflict_from p columns A (n - A) ≡ r
   unfolding conflict_from
   row_here t = rw (row_less, ← row) (go r t)
     where
-      go : (r : Conflict) → (r ≡ Absent → ⊥) → or_later r (conflict_from p columns (suc A) (n - (A + 1))) ≡ r
-      go Absent t = absurd (t refl)
-      go (At B c) t = refl
+      go : (r : Option (ℕ × ℕ)) → (r ≡ None → ⊥) → or_later r (conflict_from p columns (suc A) (n - (A + 1))) ≡ r
+      go None t = absurd (t refl)
+      go (Some q) t = refl
 
-  pub row_later : r ≡ Absent → conflict_from p columns A (n - A) ≡ conflict_from p columns (A + 1) (n - (A + 1))
+  pub row_later : r ≡ None → conflict_from p columns A (n - A) ≡ conflict_from p columns (A + 1) (n - (A + 1))
   unfolding conflict_from
   row_later e = rw (row_less, ← row, e, add-one A)
 
-pub rows_all : (p : ℕ → ℕ → Bool) (columns n : ℕ) → conflict_from p columns 0 (n - 0) ≡ conflict_from p columns 0 n
-rows_all p columns n = let e : n - 0 ≡ n = omega arith in rw e
-
-pub rows_none : (p : ℕ → ℕ → Bool) (columns A n : ℕ) → n ≤ A → conflict_from p columns A (n - A) ≡ Absent
+pub rows_none : (p : ℕ → ℕ → Bool) (columns A n : ℕ) → n ≤ A → conflict_from p columns A (n - A) ≡ None
 unfolding conflict_from
 rows_none p columns A n h = let e : n - A ≡ 0 = omega arith in rw e
-
--- the sets claimed twice have the entries that two rules claim
-pub twice_claimed : (element : ℕ → ℕ) (columns n : ℕ) {heads sets told twice : List ℕ} {rules : ℕ} → Twice heads sets told rules twice
-    → conflict_from (in_sets element twice) columns 0 n ≡ conflict_from (claimed_twice element heads sets told rules) columns 0 n
-twice_claimed element columns n {heads} {sets} {told} {twice} {rules} t =
-    let same : in_sets element twice ≡ claimed_twice element heads sets told rules = λ i. λ A c. t.each A (element c) i in
-    ap (λ p. conflict_from p columns 0 n) same
 
 -- tests that agree on the entries find the same
 row_same : (p q : ℕ → Bool) (A c n : ℕ) → ((d : ℕ) → d < c + n → p d ≡ q d) → row_conflict p A c n ≡ row_conflict q A c n

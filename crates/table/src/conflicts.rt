@@ -15,7 +15,6 @@ use grammar::limits::RULES;
 use grammar::reading::Sizes;
 use lookahead::Lookahead;
 use lookahead_sets::LookaheadSet;
-use table_promises::Conflict;
 
 // The elements that two rules claim, for each nonterminal, added to those already told of it.
 fn claimed_twice(
@@ -29,62 +28,53 @@ fn claimed_twice(
 {
     let mut once = [0u64; SETS];
     let mut twice = told;
-    let mut rule = sizes.rules;
-    while 0 < rule {
-        rule = rule - 1;
+    for rule in (0..sizes.rules).rev() {
         let claim = LookaheadSet { bits: sets[rule] };
         note(&mut once, &mut twice, heads[rule] as usize, claim);
     }
     twice
 }
 
-// The first column of a nonterminal whose element is in a set.
+// The first entry of a nonterminal, by nonterminal and column, whose element is in a set.
 fn first_column(
     nonterminal: u8,
     set: LookaheadSet,
     terminals: u32,
     lookahead: Lookahead,
-) -> Conflict
+) -> Option<(u8, u8)>
     requires { terminals ≤ alphabet lookahead }
     ensures { result ≡ row_conflict (in_set (column_element lookahead terminals) set.bits) nonterminal 0 (column_count lookahead terminals) }
 {
     if set.is_empty() {
-        return Conflict::Absent;
+        return None;
     }
     let columns = count(lookahead, terminals);
-    let mut column = 0;
-    while column < columns {
+    for column in 0..columns {
         if set.contains(element(lookahead, terminals, column as u32)) {
-            return Conflict::At {
-                nonterminal,
-                column: column as u8,
-            };
+            return Some((nonterminal, column as u8));
         }
-        column = column + 1;
     }
-    Conflict::Absent
+    None
 }
 
 // The first entry whose element is in the set of its nonterminal.
-fn first_entry(sets: &[u64; SETS], sizes: Sizes, lookahead: Lookahead) -> Conflict
+fn first_entry(sets: &[u64; SETS], sizes: Sizes, lookahead: Lookahead) -> Option<(u8, u8)>
     requires { (sizes.nonterminals ≤ max_nonterminals) × (sizes.terminals ≤ alphabet lookahead) }
     ensures { result ≡ conflict_from (in_sets (column_element lookahead sizes.terminals) sets.now)
         (column_count lookahead sizes.terminals) 0 sizes.nonterminals }
 {
     let nonterminals = sizes.nonterminals;
     let terminals = sizes.terminals;
-    let mut nonterminal = 0;
-    while nonterminal < nonterminals {
+    for nonterminal in 0..nonterminals {
         let set = LookaheadSet {
             bits: sets[nonterminal as usize],
         };
         let conflict = first_column(nonterminal as u8, set, terminals, lookahead);
-        let Conflict::Absent = conflict else {
+        let None = conflict else {
             return conflict;
         };
-        nonterminal = nonterminal + 1;
     }
-    Conflict::Absent
+    None
 }
 
 // The first entry that two rules claim, by their heads and their claims, or that is reported of a nonterminal that overruns.
@@ -94,7 +84,7 @@ pub(crate) fn first_conflict(
     overruns: [u64; SETS],
     sizes: Sizes,
     lookahead: Lookahead,
-) -> Conflict
+) -> Option<(u8, u8)>
     requires { Headed heads.now sizes.rules sizes.nonterminals × (sizes.terminals ≤ alphabet lookahead) × (length overruns ≡ max_nonterminals) }
     ensures { result ≡ conflict_of lookahead sizes heads.now sets.now overruns }
 {

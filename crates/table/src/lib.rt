@@ -8,11 +8,11 @@ ghost use Rattle.table.specs.inner.Analysis.{found_with, found_of};
 use answer::Error;
 use claims::analyze;
 use conflicts::first_conflict;
-use families::{Finding, SETS};
+use families::SETS;
 use grammar::codes::NO_RULE;
 use grammar::limits::{ENTRIES, RULES};
+use grammar::reading::Sizes;
 use lookahead::Lookahead;
-use table_promises::Conflict;
 
 mod conflicts;
 mod rows;
@@ -21,7 +21,7 @@ mod rows;
 // nonterminal, then column. Where the grammar is refused there is no rule in the entries.
 #[derive(Drop)]
 pub struct Found {
-    pub finding: Finding,
+    pub finding: Result<Sizes, Error>,
     pub starts: [usize; RULES],
     pub firsts: [u64; SETS],
     pub follows: [u64; SETS],
@@ -51,7 +51,7 @@ pub fn find_into(
     firsts: &mut [u64; SETS],
     follows: &mut [u64; SETS],
     entries: &mut [u8; ENTRIES],
-) -> Finding
+) -> Result<Sizes, Error>
     ensures { found_with result starts.new firsts.new follows.new entries.new
         ≡ found_of lookahead words.now }
 {
@@ -68,19 +68,15 @@ pub fn find_into(
         &mut sets,
         &mut overruns,
     );
-    let Finding::Passed(sizes) = finding else {
+    let Ok(sizes) = finding else {
         *entries = [NO_RULE; ENTRIES];
         return finding;
     };
     let conflict = first_conflict(&heads, &sets, overruns, sizes, lookahead);
-    let Conflict::At {
-        nonterminal,
-        column,
-    } = conflict
-    else {
+    let Some((nonterminal, column)) = conflict else {
         rows::rows(sizes, &heads, &sets, entries, lookahead);
         return finding;
     };
     *entries = [NO_RULE; ENTRIES];
-    Finding::Refused(conflict_error(nonterminal, column, lookahead))
+    Err(conflict_error(nonterminal, column, lookahead))
 }

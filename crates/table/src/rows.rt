@@ -29,8 +29,7 @@ fn fill_row(
         claim.bits rule entries.new }
 {
     let columns = count(lookahead, terminals);
-    let mut column = 0;
-    while column < columns {
+    for column in 0..columns {
         let at = row + column;
         entries[at] = entry(
             claim,
@@ -38,7 +37,6 @@ fn fill_row(
             rule,
             entries[at],
         );
-        column = column + 1;
     }
 }
 
@@ -57,9 +55,7 @@ pub(crate) fn rows(
     let terminals = sizes.terminals;
     let columns = count(lookahead, terminals);
     *entries = [NO_RULE; ENTRIES];
-    let mut rule = sizes.rules;
-    while 0 < rule {
-        rule = rule - 1;
+    for rule in (0..sizes.rules).rev() {
         let row = heads[rule] as usize * columns;
         let claim = LookaheadSet { bits: sets[rule] };
         fill_row(entries, row, terminals, claim, rule as u8, lookahead);

@@ -6,6 +6,7 @@ ghost use Rattle.tabular_promises.specs.inner.Filling.{DerivedGiven, SpanDerived
 
 use chart::{CHART, add};
 use families::SETS;
+use families::nonterminals::Nonterminals;
 use grammar::limits::RULES;
 use grammar::reading::Sizes;
 use rule_ranks::by_rank;
@@ -13,23 +14,24 @@ use rule_scan::ask;
 use terminal_places::{STANDS, standing};
 
 // The nonterminals of a rank that the rules give a span to, where bodies are read by the chart.
-fn derived<'a>(
+fn derived(
     words: &[u32],
     starts: &[usize; RULES],
-    lasts: &'a [usize; SETS],
-    befores: &'a [usize; RULES],
+    lasts: &[usize; SETS],
+    befores: &[usize; RULES],
     sizes: Sizes,
     rank: u32,
     stands: &[u64; STANDS],
     chart: &[u64; CHART],
     start: usize,
     end: usize,
-) -> u32
+) -> Nonterminals
     requires { DerivedGiven words.now starts.now lasts.now befores.now sizes rank start end }
-    ensures { SpanDerived words.now rank stands.now chart.now start end result }
+    ensures { SpanDerived words.now rank stands.now chart.now start end result.bits }
 {
-    let mut found = 0u32;
+    let mut found = Nonterminals::empty();
     let mut rule = lasts[rank as usize];
+    // Each rule names the one before it, so no range drives this loop.
     while 0 < rule {
         let asked = rule - 1;
         found = ask(
@@ -41,11 +43,11 @@ fn derived<'a>(
 }
 
 // Asks the rules of one span, those of lower rank first: what a nonterminal asks of the same span is of nonterminals of lower rank.
-fn settle<'a>(
+fn settle(
     words: &[u32],
     starts: &[usize; RULES],
-    lasts: &'a [usize; SETS],
-    befores: &'a [usize; RULES],
+    lasts: &[usize; SETS],
+    befores: &[usize; RULES],
     sizes: Sizes,
     stands: &[u64; STANDS],
     chart: &mut [u64; CHART],
@@ -57,22 +59,20 @@ fn settle<'a>(
         (turn (start + 1) (end + 1) 0) chart.new }
 {
     let nonterminals = sizes.nonterminals;
-    let mut rank = 0;
-    while rank < nonterminals {
+    for rank in 0..nonterminals {
         let found = derived(
             words, starts, lasts, befores, sizes, rank, stands, chart, start, end,
         );
-        add(chart, nonterminals, start, end, found);
-        rank = rank + 1;
+        add(chart, nonterminals, start, end, found.bits);
     }
 }
 
 // The spans of one length.
-fn fill_length<'a>(
+fn fill_length(
     words: &[u32],
     starts: &[usize; RULES],
-    lasts: &'a [usize; SETS],
-    befores: &'a [usize; RULES],
+    lasts: &[usize; SETS],
+    befores: &[usize; RULES],
     sizes: Sizes,
     stands: &[u64; STANDS],
     chart: &mut [u64; CHART],
@@ -83,8 +83,7 @@ fn fill_length<'a>(
     ensures { Fills words.now stands.now chart.old tokens tokens (turn 0 length 0)
         (turn 0 (length + 1) 0) chart.new }
 {
-    let mut start = 0;
-    while start + length <= tokens {
+    for start in 0..tokens + 1 - length {
         settle(
             words,
             starts,
@@ -96,7 +95,6 @@ fn fill_length<'a>(
             start,
             start + length,
         );
-        start = start + 1;
     }
 }
 
@@ -114,8 +112,7 @@ pub(crate) fn fill(
     let ranked = by_rank(words, starts, sizes.rules, reaches);
     let stands = standing(events);
     let mut chart = [0u64; CHART];
-    let mut length = 0;
-    while length <= events.len() {
+    for length in 0..events.len() + 1 {
         fill_length(
             words,
             starts,
@@ -127,7 +124,6 @@ pub(crate) fn fill(
             events.len(),
             length,
         );
-        length = length + 1;
     }
     chart
 }

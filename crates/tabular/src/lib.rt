@@ -6,9 +6,9 @@ ghost use Rattle.event.specs.Events.{input_of};
 ghost use Rattle.tabular_promises.specs.inner.Judging.{TabulateGiven, Tabulated, FoundGiven};
 ghost use Rattle.tabular_promises.specs.Properties.{TabularJudges};
 
-use answer::Answer;
+use answer::{Answer, Error};
 use chart::verdict;
-use families::{Finding, SETS};
+use families::SETS;
 use filling::fill;
 use grammar::limits::RULES;
 use grammar::reading::Sizes;
@@ -20,11 +20,11 @@ use span_words::write;
 mod filling;
 
 // Fills the lent words with the nonterminals of every span, and gives the verdict.
-fn tabulate<'a>(
+fn tabulate(
     words: &[u32],
-    starts: &'a [usize; RULES],
+    starts: &[usize; RULES],
     sizes: Sizes,
-    reaches: &'a [u32; SETS],
+    reaches: &[u32; SETS],
     events: &[u8],
     spans: &mut [u32],
 ) -> Answer
@@ -37,11 +37,11 @@ fn tabulate<'a>(
 }
 
 // By what is found of the grammar and the input: why they are refused, or the verdict.
-fn judge_found<'a>(
+fn judge_found(
     words: &[u32],
-    finding: Finding,
-    starts: &'a [usize; RULES],
-    reaches: &'a [u32; SETS],
+    finding: Result<Sizes, Error>,
+    starts: &[usize; RULES],
+    reaches: &[u32; SETS],
     events: &[u8],
     spans: &mut [u32],
 ) -> Answer
@@ -49,8 +49,8 @@ fn judge_found<'a>(
     ensures { TabularJudges words.now (input_of events.now) spans.old result spans.new }
 {
     match finding {
-        Finding::Refused(error) => Answer::Refused(error),
-        Finding::Passed(sizes) => tabulate(words, starts, sizes, reaches, events, spans),
+        Err(error) => Answer::Refused(error),
+        Ok(sizes) => tabulate(words, starts, sizes, reaches, events, spans),
     }
 }
 

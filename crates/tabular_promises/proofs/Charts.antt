@@ -41,10 +41,6 @@ pub one_nonterminal_lem : (A : ℕ) → A < max_nonterminals → one_nonterminal
 unfolding one_nonterminal
 one_nonterminal_lem A h = rw (lt-ltb A max_nonterminals h)
 
-pub no_nonterminal : (A : ℕ) → max_nonterminals ≤ A → 0 ≡ one_nonterminal A
-unfolding one_nonterminal
-no_nonterminal A h = rw (le-ltb A max_nonterminals h)
-
 pub with_nonterminal_lem : (found A : ℕ) (there : Bool) {r : ℕ} → A < max_nonterminals → r ≡ with_nonterminal found A there
     → r ≡ choose there (bit_or found (weight A)) found
 unfolding with_nonterminal

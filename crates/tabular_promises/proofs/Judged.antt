@@ -1,9 +1,10 @@
 -- What judging by tabulation answers and leaves in the lent words, by the first fault; and what the answer means.
+use Rattle.std.specs.Prelude.{Err, None, Ok, Option, Result, Some}
 use mathlib.Core.Path.{◌≡◌, refl, sym, ap, ◌∙◌}
 use mathlib.Core.Bool.{Bool, true, false}
 use mathlib.Core.List.{List, [], ◌∷◌, ◌++◌}
 use mathlib.Core.Logic.{◌↔◌}
-use mathlib.Core.Option.{Option, none, some}
+use mathlib.Core.Option.{Option as Maybe, none, some}
 use Prim.Native.Nat.{ℕ, ◌≤◌, ◌<◌}
 use native.Mathlib.Omega.{arith}
 use lib.Dec.{ltb}
@@ -18,15 +19,12 @@ use Rattle.answer.specs.Numbers.{Numbers, coded, numbers}
 use Rattle.answer.specs.Faults.{first_fault, refused_or, told_or}
 use Rattle.answer.proofs.Faults.{Faultless, none_some, fault_none, each_none}
 use Rattle.event.specs.Unknown.{unknown_from, unknown_fault}
-use Rattle.event.specs.declared.Unknown.{Unknown}
-use Rattle.event.specs.declared.Unknown.TheVariants.{Absent, At}
 use Rattle.event.proofs.Known.{known_absent, absent_known, token_below}
 use Rattle.grammar.specs.Limits.{max_words, max_nonterminals, max_tabular_tokens, max_span_words}
 use Rattle.grammar.specs.Syntax.{Grammar}
 use Rattle.grammar.specs.Encoding.{grammar_of}
 use Rattle.grammar.specs.Reading.{reading}
 use Rattle.grammar.specs.declared.reading.Sizes.{Sizes}
-use Rattle.grammar.specs.declared.reading.Reading.TheVariants.{Read}
 use Rattle.grammar.proofs.WellRead.{well_read}
 use Rattle.encoding.specs.Encode.{Encodes}
 use Rattle.encoding.proofs.Decoding.{encodes_grammar}
@@ -43,8 +41,6 @@ use Rattle.families.specs.Analysis.{sets_faults, sets_fault}
 use Rattle.families.specs.inner.Analysis.{sets_if, first_families_of, families_of}
 use Rattle.base.specs.Lists.{listed}
 use Rattle.families.specs.inner.Sets.{reach_number}
-use Rattle.families.specs.declared.Finding.{Finding}
-use Rattle.families.specs.declared.Finding.TheVariants.{Passed, Refused}
 use Rattle.families.proofs.Findings.{FoundFirsts, families_told, families_refused}
 use Rattle.promises.specs.Inputs.{input_faults_to}
 use Rattle.promises.specs.inner.Inputs.{with_input_to}
@@ -84,12 +80,12 @@ module _ (words : List ℕ) (p : FreeGrammar words) where
         (theorems.productive_decided (grammar_of words) 1).absent.1 (rw (← same_grammar) p.productive),
       )
 
-none_unknown : (u : Unknown) → unknown_fault u ≡ none → u ≡ Absent
-none_unknown Absent q = refl
-none_unknown (At i) q = absurd (none_some (sym q))
+none_unknown : (u : Option ℕ) → unknown_fault u ≡ none → u ≡ None
+none_unknown None q = refl
+none_unknown (Some i) q = absurd (none_some (sym q))
 
 -- without a fault there is no left recursion
-faultless_free : (words : List ℕ) (z : Sizes) → reading words ≡ Read z → sets_fault One words ≡ none → NoLeftRecursion (grammar_of words)
+faultless_free : (words : List ℕ) (z : Sizes) → reading words ≡ Ok z → sets_fault One words ≡ none → NoLeftRecursion (grammar_of words)
 unfolding sets_fault
 faultless_free words z r e =
     (theorems.left_recursion_decided (grammar_of words) (read_encodes words z r).1.formed.scoped).absent.0
@@ -160,7 +156,7 @@ module _ (words input before : List ℕ) {after : List ℕ} {r : Answer} (p : Fr
   }
 
 -- a code that no row tells is not told, nor is it that of a verdict
-never_told : (f : Option Error) (b : Bool) (r : Answer) (c : ℕ) → 0 < c → ((e : Error) → f ≡ some e → (coded e).code ≡ c → ⊥)
+never_told : (f : Maybe Error) (b : Bool) (r : Answer) (c : ℕ) → 0 < c → ((e : Error) → f ≡ some e → (coded e).code ≡ c → ⊥)
     → numbers r ≡ told_or f (numbers (told b)) → (numbers r).code ≡ c → ⊥
 never_told (some x) b r c positive h e q = h x refl (sym (ap (λ (n : Numbers). n.code) e) ∙ q)
 never_told none true r c positive h e q = absurd (omega (arith, ap (λ (n : Numbers). n.code) e, q))
@@ -214,15 +210,15 @@ judge_faulty : (words input before : List ℕ) {x : Error} → max_span_words �
 judge_faulty words input before room f = judge_refused (fault_long words input before room f)
 
 -- by what is found of the grammar and the input
-module _ {words input spans starts reaches : List ℕ} {f : Finding} (g : FoundGiven words f starts reaches input spans) where
-  abbrev faults : ℕ → List (Option Error)
+module _ {words input spans starts reaches : List ℕ} {f : Result Sizes Error} (g : FoundGiven words f starts reaches input spans) where
+  abbrev faults : ℕ → List (Maybe Error)
   faults n = input_faults_to max_tabular_tokens n input
 
-  abbrev behind : Finding
+  abbrev behind : Result Sizes Error
   behind = with_input_to max_tabular_tokens g.families.finding input
 
   -- of a grammar that passed: its sizes, no fault, and what its nonterminals left-reach
-  module _ {z : Sizes} (p : g.families.finding ≡ Passed z) where
+  module _ {z : Sizes} (p : g.families.finding ≡ Ok z) where
     told_sets : FoundFirsts One words z g.families
     told_sets = (families_told One words g.found p).firsts
 
@@ -234,10 +230,10 @@ module _ {words input spans starts reaches : List ℕ} {f : Finding} (g : FoundG
     found_reaches =
         g.reached ∙ ap (λ x. x.reaches) g.found ∙ ap (λ o. sets_if o (listed max_nonterminals (reach_number (grammar_of words)))) told_sets.faultless
 
-    by_input : max_span_words ≤ length spans → {o : Option Error} → first_fault (faults z.terminals) ≡ o → tabular_fault (length spans) words input ≡ o
+    by_input : max_span_words ≤ length spans → {o : Maybe Error} → first_fault (faults z.terminals) ≡ o → tabular_fault (length spans) words input ≡ o
     by_input room e = fault_long words input spans room told_sets.faultless ∙ rw (← terminals) e
 
-  pub judge_found_refused : {x : Error} → f ≡ Refused x → TabularJudges words input spans (answer.Refused x) spans
+  pub judge_found_refused : {x : Error} → f ≡ Err x → TabularJudges words input spans (answer.Refused x) spans
   judge_found_refused {x} q = by_room (room_refused (length spans) max_span_words SpansTooShort behind (sym g.finding ∙ q))
     where
       go : max_span_words ≤ length spans → RefusedWith g.families.finding faults x → TabularJudges words input spans (answer.Refused x) spans
@@ -248,8 +244,8 @@ module _ {words input spans starts reaches : List ℕ} {f : Finding} (g : FoundG
       by_room (too_short h s) = judge_refused (spans_short words input spans h ∙ ap some s)
       by_room (enough room i) = go room (with_refused g.families.finding faults i)
 
-  module _ {z : Sizes} (q : f ≡ Passed z) where
-    long : (max_span_words ≤ length spans) × (behind ≡ Passed z)
+  module _ {z : Sizes} (q : f ≡ Ok z) where
+    long : (max_span_words ≤ length spans) × (behind ≡ Ok z)
     long = room_passed (length spans) max_span_words SpansTooShort behind (sym g.finding ∙ q)
 
     both : PassedWith g.families.finding faults z

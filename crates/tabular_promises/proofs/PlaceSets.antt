@@ -13,7 +13,7 @@ use lib.Pow.{shl_exact}
 use lib.Seq.{get_or-set_same, get_or-set_other, set_out}
 use borrow.Author.Tests.{eq-eqb, ne_eqb, lt-ltb, le-ltb}
 use Rattle.base.specs.Choice.{choose}
-use Rattle.grammar.specs.Limits.{max_terminals, max_tabular_places, max_nonterminals}
+use Rattle.grammar.specs.Limits.{max_terminals, max_tabular_places}
 use Rattle.lookahead.specs.Elements.{has}
 use Rattle.lookahead.proofs.Elements.{has_or, has_zero}
 use Rattle.lookahead.proofs.Powers.{has_pow}
@@ -21,12 +21,9 @@ use Rattle.event.specs.Events.{terminal_of, input_of}
 use Rattle.event.proofs.Inputs.{input_at}
 use Rattle.tabular_promises.specs.inner.Places.{only_place, has_place, with_place, PlacePut, Standing, stands_to, stands_of, InputGiven}
 
--- a place's weight, and a nonterminal's
+-- a place's weight
 pub weight_64 : (k : ℕ) → k < max_tabular_places → 1 * 2 ^ k % 2 ^ 64 ≡ 2 ^ k
 weight_64 k h = shl_exact 1 k 64 (omega arith) (omega arith) ∙ omega arith
-
-pub weight_32 : (k : ℕ) → k < max_nonterminals → 1 * 2 ^ k % 2 ^ 32 ≡ 2 ^ k
-weight_32 k h = shl_exact 1 k 32 (omega arith) (omega arith) ∙ omega arith
 
 pub digit : (n k : ℕ) → eqb (bit_and (n / 2 ^ k) 1) 1 ≡ has n k
 unfolding has
@@ -37,17 +34,9 @@ pub one_place : (place : ℕ) → place < max_tabular_places → only_place plac
 unfolding only_place
 one_place place h = rw (lt-ltb place max_tabular_places h)
 
-pub no_place : (place : ℕ) → max_tabular_places ≤ place → 0 ≡ only_place place
-unfolding only_place
-no_place place h = rw (le-ltb place max_tabular_places h)
-
 pub has_place_lem : (set place : ℕ) → place < max_tabular_places → has_place set place ≡ has set place
 unfolding has_place
 has_place_lem set place h = rw (lt-ltb place max_tabular_places h)
-
-pub lacks_place : (set place : ℕ) → max_tabular_places ≤ place → false ≡ has_place set place
-unfolding has_place
-lacks_place set place h = rw (le-ltb place max_tabular_places h)
 
 put_in : {s place r : ℕ} {member : Bool} → member ≡ true → r ≡ bit_or s (2 ^ place) → PlacePut s place member r
 put_in {s} {place} {r} {member} m e =

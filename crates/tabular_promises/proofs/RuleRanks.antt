@@ -149,13 +149,6 @@ module _ (rank_of : ℕ → ℕ) where
     unfolding befores_to
     befores_more d e = rw (h, d, e, add-one q)
 
-  module _ (q : ℕ) {n : ℕ} {l : List ℕ} (low : q ≤ n) (high : n ≤ q) where
-    pub all_lasts : l ≡ lasts_to rank_of q → l ≡ lasts_to rank_of n
-    all_lasts h = let e : q ≡ n = omega arith in rw e at h
-
-    pub all_befores : l ≡ befores_to rank_of q → l ≡ befores_to rank_of n
-    all_befores h = let e : q ≡ n = omega arith in rw e at h
-
 -- so of a grammar without left recursion
 module _ {words starts reaches : List ℕ} {z : Sizes} (g : RanksGiven words starts z reaches) where
   abbrev rank_of : ℕ → ℕ
@@ -266,13 +259,6 @@ module _ (words starts : List ℕ) (rules q : ℕ) (stands chart : List ℕ) (st
       (h : b ≡ has found head) where
     its_head : head ≡ head_at words (get_or starts (q % max_rules) 0)
     its_head = e ∙ ap head_of d
-
-    pub asked_known : b ≡ true → found ≡ asked_by words starts rules q stands chart start end found
-    asked_known t = rw (← its_head, ← h, t)
-
-    pub asked_scanned : {r : ℕ} {there : Bool} → b ≡ false → there ≡ keeps_by words (get_or starts (q % max_rules) 0) to stands chart start end
-        → r ≡ with_nonterminal found head there → r ≡ asked_by words starts rules q stands chart start end found
-    asked_scanned f k m = rw (m, k, n, ← its_head, ← h, f)
 
 module _ {words starts : List ℕ} {z : Sizes} {q start end : ℕ} (g : AskGiven words starts z q start end) (stands chart : List ℕ) (found : ℕ) where
   abbrev from : ℕ

@@ -1,4 +1,5 @@
 -- The order of the faults of judging by tabulation: which is the first, by what holds; which errors it can give; and that none is a conflict.
+use Rattle.std.specs.Prelude.{None}
 use mathlib.Core.Path.{◌≡◌, ◌∙◌}
 use mathlib.Core.List.{List, [], ◌∷◌, ◌++◌}
 use mathlib.Core.Option.{Option, none, some}
@@ -12,7 +13,6 @@ use Rattle.answer.specs.declared.Error.TheVariants.{InputTooLong, SpansTooShort}
 use Rattle.answer.specs.Numbers.{coded}
 use Rattle.answer.specs.Faults.{fault_if, first_fault}
 use Rattle.answer.proofs.Faults.{first_nested, OfFault, of_if, first_each}
-use Rattle.event.specs.declared.Unknown.TheVariants.{Absent}
 use Rattle.event.specs.Unknown.{unknown_from, unknown_fault}
 use Rattle.grammar.specs.Limits.{max_tabular_tokens, max_span_words}
 use Rattle.grammar.specs.Encoding.{grammar_of}
@@ -41,7 +41,7 @@ module _ (words input before : List ℕ) where
         (fault_if (ltb max_tabular_tokens (length input)) InputTooLong ∷ unknown_fault (unknown_from (grammar_of words).terminals 0 input) ∷ [])
         ∙ rw (le-ltb (length before) max_span_words room, e)
 
-    pub no_fault : sets_fault One words ≡ none → length input ≤ max_tabular_tokens → unknown_from (grammar_of words).terminals 0 input ≡ Absent → judged ≡ none
+    pub no_fault : sets_fault One words ≡ none → length input ≤ max_tabular_tokens → unknown_from (grammar_of words).terminals 0 input ≡ None → judged ≡ none
     no_fault passed short u = fault_long passed ∙ rw (le-ltb max_tabular_tokens (length input) short, u)
 
 -- which errors it can give

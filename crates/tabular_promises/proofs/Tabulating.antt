@@ -1,4 +1,5 @@
 -- A filled chart, and the words written from it, are those of the one solution.
+use Rattle.std.specs.Prelude.{Ok}
 use mathlib.Core.Path.{◌≡◌, ap, ◌∙◌}
 use mathlib.Core.Bool.{Bool}
 use mathlib.Core.List.{List, ◌++◌}
@@ -11,7 +12,6 @@ use Rattle.grammar.specs.Encoding.{grammar_of}
 use Rattle.grammar.specs.Limits.{max_tabular_tokens, max_tabular_places, max_span_words}
 use Rattle.grammar.specs.Reading.{reading}
 use Rattle.grammar.specs.declared.reading.Sizes.{Sizes}
-use Rattle.grammar.specs.declared.reading.Reading.TheVariants.{Read}
 use Rattle.grammar.proofs.WellRead.{well_read}
 use Rattle.lookahead.specs.Elements.{has}
 use Rattle.semantics.specs.Valuations.{solution}
@@ -25,7 +25,7 @@ use Rattle.tabular_promises.proofs.Writing.{total_cong, words_cong, were_written
 use Rattle.tabular_promises.proofs.Charts.{span_word_lem}
 use Rattle.tabular_promises.proofs.PlaceSets.{has_place_lem}
 
-module _ {words w chart : List ℕ} {z : Sizes} (read : reading words ≡ Read z) (f : Filled words w chart) where
+module _ {words w chart : List ℕ} {z : Sizes} (read : reading words ≡ Ok z) (f : Filled words w chart) where
   verdict_right : {r : Bool} → r ≡ has (get_or chart (length w) 0) 0 → r ≡ solution (grammar_of words) w 0 0 (length w)
   unfolding charted
   verdict_right {r} e =

@@ -183,22 +183,6 @@ settled {start = start} {end = end} {r = r} g l o f = record {
       (λ A k m a km mw t. omega (arith, low_rank g.given A a, few g.given, counted g.given));
 }
 
--- the spans of a length one by one
-pub length_start : (d : ℕ) {words stands chart : List ℕ} {tokens : ℕ} → Long chart
-    → Fills words stands chart tokens tokens (turn 0 d 0) (turn 0 (0 + d) 0) chart
-length_start d l = let e : 0 + d ≡ d = omega arith in rw e (settling_start l)
-
-pub length_more : (start d : ℕ) {words stands before chart chart' : List ℕ} {tokens : ℕ} → start + d ≤ tokens → tokens ≤ max_tabular_tokens
-    → Fills words stands before tokens tokens (turn 0 d 0) (turn start (start + d) 0) chart
-    → Fills words stands chart (start + d) max_tabular_tokens (turn start (start + d) 0) (turn (start + 1) (start + d + 1) 0) chart'
-    → Fills words stands before tokens tokens (turn 0 d 0) (turn (start + 1) (start + 1 + d) 0) chart'
-length_more start d l h f n = record {
-  long = n.long;
-  filled = λ w s b c k.
-      let e : start + d + 1 ≡ start + 1 + d = omega arith in
-      rw e at (n.filled w s (omega arith) (omega arith) (f.filled w s b c k));
-}
-
 pub length_end : (start d : ℕ) {words starts lasts befores stands before chart : List ℕ} {z : Sizes} {tokens : ℕ}
     → LengthGiven words starts lasts befores z before tokens d
     → tokens < start + d → start ≤ suc tokens → Fills words stands before tokens tokens (turn 0 d 0) (turn start (start + d) 0) chart

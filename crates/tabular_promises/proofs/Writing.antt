@@ -1,19 +1,18 @@
--- The spans' words in a row: where each stands, and a memory whose first words have been replaced by them.
-use mathlib.Core.Path.{◌≡◌, refl, sym, ap, ap₂, ◌∙◌}
+-- The words of the spans in a row: where each stands, and when they are written.
+use mathlib.Core.Path.{◌≡◌, refl, ap, ap₂, ◌∙◌}
 use mathlib.Core.Bool.{Bool}
 use mathlib.Core.List.{List, ◌∷◌, ◌++◌}
 use Prim.Native.Nat.{ℕ, zero, suc, ◌+◌, ◌*◌, ◌-◌, ◌≤◌, ◌<◌}
 use native.Mathlib.Decide.{ℕ_discrete}
 use native.Mathlib.Omega.{arith}
-use lib.ListN.{length, drop, set, get_or, length-append, length-set, get_or-append}
-use lib.Seq.{take_all, get_or-append-add}
+use lib.ListN.{length, get_or, length-append, get_or-append}
+use lib.Seq.{get_or-append-add}
 use borrow.Author.Tests.{le-leb, lt-leb}
 use Rattle.base.specs.Quantifiers.{one}
 use Rattle.grammar.specs.Limits.{max_tabular_tokens, max_tabular_places, max_span_words}
 use Rattle.lookahead.specs.Elements.{weight, total_weight}
 use Rattle.base.specs.Lists.{listed}
 use Rattle.base.proofs.Lists.{listed_long, listed_at}
-use Rattle.base.proofs.Front.{front, front_more}
 use Rattle.tabular_promises.specs.inner.Chart.{span_word}
 use Rattle.tabular_promises.specs.Spans.{spans_before, span_index, rows, span_words}
 use Rattle.tabular_promises.specs.inner.Spans.{span_count, Spans, written_spans}
@@ -39,7 +38,7 @@ most = refl
 pub count_low : (n : ℕ) → n ≤ max_tabular_tokens → span_count n ≤ max_span_words
 count_low n h = omega (arith, before_more n max_tabular_tokens (suc n) h, before_mono max_tabular_tokens (suc n) max_tabular_places (omega arith), most)
 
-before_zero : (n : ℕ) → spans_before n 0 ≡ 0
+pub before_zero : (n : ℕ) → spans_before n 0 ≡ 0
 unfolding spans_before
 before_zero n = refl
 
@@ -113,59 +112,6 @@ pub total_cong : (k : ℕ) (p q : ℕ → Bool) → ((l : ℕ) → l < k → p l
 unfolding total_weight
 total_cong zero p q h = refl
 total_cong (suc k) p q h = ap₂ (λ (b : Bool) (n : ℕ). one b * weight k + n) (h k (omega arith)) (total_cong k p q (λ l o. h l (omega arith)))
-
--- the words of the spans before the one from start to end have been written
-pub record Writing (n : ℕ) (f : ℕ → ℕ → ℕ) (before spans : List ℕ) (at start end : ℕ) : Type 0 where
-  pub low : start ≤ end
-  pub high : end ≤ suc n
-  pub inner : start ≤ n → end ≤ n
-  pub index : at ≡ span_index n start end
-  pub long : length spans ≡ length before
-  pub memory : spans ≡ front (span_words n f) at before
-
-pub writing_start : (n : ℕ) (f : ℕ → ℕ → ℕ) (before : List ℕ) → Writing n f before before 0 0 0
-writing_start n f before =
-    record { low = omega arith; high = omega arith; inner = λ _. omega arith; index = omega (arith, before_zero n); long = refl; memory = refl }
-
-module _ {n : ℕ} {f : ℕ → ℕ → ℕ} {before spans : List ℕ} {at start end : ℕ} (h : Writing n f before spans at start end) (few : n ≤ max_tabular_tokens)
-    (room : max_span_words ≤ length before) (in-range : start ≤ n) where
-  pub at_low : at < span_count n
-  at_low = omega (arith, h.index, index_low n start end h.low (h.inner in-range))
-
-  pub at_room : at < length spans
-  at_room = omega (arith, at_low, count_low n few, h.long)
-
-  memory_more : (word : ℕ) → word ≡ f start end → set spans at word ≡ front (span_words n f) (at + 1) before
-  memory_more word e =
-      let d : word ≡ get_or (span_words n f) at 0 = e ∙ sym (rw h.index (words_at n f start end h.low (h.inner in-range))) in
-      rw d (front_more (span_words n f) before spans at h.memory (omega (arith, at_low, words_long n f)) (omega (arith, at_room, h.long)))
-
-  module _ {word : ℕ} {spans' : List ℕ} (w : word ≡ f start end) (e : spans' ≡ set spans at word) where
-    pub row_on : end < n → Writing n f before spans' (at + 1) start (end + 1)
-    row_on l = record {
-      low = omega (arith, h.low);
-      high = omega arith;
-      inner = λ _. omega arith;
-      index = omega (arith, h.index, h.low);
-      long = rw (e, length-set spans at word) h.long;
-      memory = rw e (memory_more word w);
-    }
-
-    pub row_end : n ≤ end → Writing n f before spans' (at + 1) (start + 1) (start + 1)
-    row_end l = record {
-      low = omega arith;
-      high = omega arith;
-      inner = λ o. o;
-      index = let s : start + 1 ≡ suc start = omega arith in rw s (omega (arith, h.index, h.inner in-range, h.low, before_suc n start));
-      long = rw (e, length-set spans at word) h.long;
-      memory = rw e (memory_more word w);
-    }
-
-pub written : {n : ℕ} {f : ℕ → ℕ → ℕ} {before spans : List ℕ} {at start end : ℕ} → Writing n f before spans at start end → n < start → Spans n f before spans
-written {n} {f} {before} {spans} {at} {start} {end} h l =
-    let s : start ≡ suc n = omega (arith, h.low, h.high) in
-    let d : at ≡ span_count n = h.index ∙ rw s (omega (arith, h.low, h.high)) in
-    h.memory ∙ rw d (ap (◌++ drop (span_count n) before) (take_all (span_count n) (span_words n f) (omega (arith, words_long n f))))
 
 -- by the lengths of the input and of the memory
 module _ (chart : List ℕ) (N tokens : ℕ) (before : List ℕ) where

@@ -17,13 +17,11 @@ pub fn standing(events: &[u8]) -> [u64; STANDS]
     ensures { result ≡ stands_of (input_of events.now) }
 {
     let mut stands = [0u64; STANDS];
-    let mut at = 0;
-    while at < events.len() {
-        let terminal = terminal_of(events[at]) as usize;
+    for (at, event) in events.iter().enumerate() {
+        let terminal = usize::from(terminal_of(*event));
         if terminal < STANDS {
             stands[terminal] = put(stands[terminal], at, true);
         }
-        at = at + 1;
     }
     stands
 }

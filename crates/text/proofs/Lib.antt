@@ -1,5 +1,5 @@
 pub mod Decimal
 pub mod Examples
 pub mod Lengths
-pub mod Lines
+pub mod Outputs
 pub mod Writing

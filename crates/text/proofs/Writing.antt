@@ -1,14 +1,13 @@
 -- The laws of texts put into a buffer one behind the other.
 use mathlib.Core.Path.{◌≡◌, refl, sym, ap, ◌∙◌}
 use mathlib.Core.List.{List, [], ◌∷◌, ◌++◌}
-use Prim.Native.Nat.{ℕ, suc, ◌+◌, ◌-◌, ◌≤◌, ◌<◌, min}
+use Prim.Native.Nat.{ℕ, suc, ◌+◌, ◌-◌, ◌≤◌, min}
 use native.Mathlib.Nat.{add-zero}
-use native.Mathlib.Numerals.{add-one}
 use native.Mathlib.Omega.{arith}
 use native.Mathlib.Decide.{dec_le}
-use lib.ListN.{length, get_or, take, drop, set, length-append}
-use lib.Seq.{sets, sets-eq, set_out, take_at, length-sets, take-suc, take_all}
-use Rattle.text.specs.Writing.{Put, up_to}
+use lib.ListN.{length, take, drop, set, length-append}
+use lib.Seq.{sets, sets-eq, set_out, take_at, length-sets}
+use Rattle.text.specs.Writing.{Put}
 
 -- what is stored behind the end of a list is lost
 sets_out : (xs l : List ℕ) (i : ℕ) → length l ≤ i → sets l i xs ≡ l
@@ -21,9 +20,6 @@ sets_append [] ys l i = rw add-zero
 sets_append (x ∷ xs) ys l i =
     let e : suc i + length xs ≡ i + suc (length xs) = omega arith in
     rw (← e) (sets_append xs ys (set l i x) (suc i))
-
-pub put_lost : (l : List ℕ) (at v : ℕ) → length l ≤ at → Put l at (v ∷ []) l at
-put_lost l at v h = record { bytes = sym (set_out l at v h); position = omega arith }
 
 pub put_none : (l : List ℕ) (at : ℕ) → Put l at [] l at
 put_none l at = record { bytes = refl; position = omega arith }
@@ -57,20 +53,3 @@ put_then {l} {at} {x} {m} {next} {y} {n} {last} p q = record { bytes = q.bytes �
         let a : length m ≤ next = omega (arith, p.position, size) in
         let b : length (sets l at x) ≤ at + length x = omega (arith, length-sets l at x) in
         sets_out y m next a ∙ p.bytes ∙ sym (sets_append x y l at ∙ sets_out y (sets l at x) (at + length x) b)
-
--- a loop that puts the bytes of a list has put one more, and in the end all
-pub put_more : {l m n : List ℕ} {at next last : ℕ} (xs : List ℕ) (i : ℕ) → i < length xs →
-    Put l at (take i xs) m next → Put m next (get_or xs i 0 ∷ []) n last → Put l at (take (i + 1) xs) n last
-put_more xs i h p q = rw (add-one i, take-suc xs i 0 h) (put_then p q)
-
-pub put_all : {l m : List ℕ} {at next : ℕ} (xs : List ℕ) (i : ℕ) → length xs ≤ i → Put l at (take i xs) m next → Put l at xs m next
-put_all xs i h p = rw (take_all i xs h) at p
-
--- a loop that puts the texts of the numbers in order has put one more, and in the end all
-pub put_next : {l m n y : List ℕ} {at next last : ℕ} (text : ℕ → List ℕ) (i : ℕ) → y ≡ text i →
-    Put l at (up_to i text) m next → Put m next y n last → Put l at (up_to (i + 1) text) n last
-unfolding up_to
-put_next text i e p q = rw (add-one i, ← e) (put_then p q)
-
-pub put_last : {l m : List ℕ} {at next i n : ℕ} (text : ℕ → List ℕ) → i ≤ n → n ≤ i → Put l at (up_to i text) m next → Put l at (up_to n text) m next
-put_last {i} {n} text h k p = let e : i ≡ n = omega arith in rw e at p

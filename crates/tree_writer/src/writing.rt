@@ -30,18 +30,12 @@ fn write_vertex(
     tree[written] = vertex;
     let start = start_of(vertex);
     let mut count = written + 1;
-    let mut at = starts[rule_of(vertex)] + 1;
     let mut place = start;
-    while at < words.len() {
-        let word = decode(words[at]);
-        match word {
-            Word::Positive => {
-                place = start;
-            }
+    for at in starts[rule_of(vertex)] + 1..words.len() {
+        match decode(words[at]) {
+            Word::Positive => place = start,
             Word::Symbol(symbol) => match symbol {
-                Symbol::Terminal(_) => {
-                    place = place + 1;
-                }
+                Symbol::Terminal(_) => place += 1,
                 Symbol::Nonterminal(called) => {
                     let below = called as usize * PLACES + place;
                     count = write_vertex(words, starts, labels, tree, below, count);
@@ -50,7 +44,6 @@ fn write_vertex(
             },
             _ => return count,
         }
-        at = at + 1;
     }
     count
 }

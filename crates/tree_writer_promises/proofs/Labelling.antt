@@ -1,4 +1,6 @@
 -- The words of the vertices, one after the other: each index is that of one nonterminal and place.
+use Rattle.std.specs.Prelude.{Err, Ok, Result}
+use Rattle.answer.specs.declared.Error.{Error}
 use mathlib.Core.Path.{◌≡◌, refl, sym, ap, ◌∙◌}
 use mathlib.Core.Bool.{Bool, true, false}
 use mathlib.Core.List.{List}
@@ -13,8 +15,6 @@ use Rattle.base.specs.Choice.{choose}
 use Rattle.base.proofs.Lists.{listed_long, listed_at, get_d_zeros}
 use Rattle.grammar.specs.Limits.{max_nonterminals, max_tokens, max_places, max_memo_entries}
 use Rattle.grammar.specs.declared.reading.Sizes.{Sizes}
-use Rattle.grammar.specs.declared.reading.Reading.{Reading}
-use Rattle.grammar.specs.declared.reading.Reading.TheVariants.{Read, Faulty}
 use Rattle.event.specs.Events.{input_of}
 use Rattle.event.proofs.Inputs.{input_length}
 use Rattle.lookahead.specs.declared.Lookahead.TheVariants.{One}
@@ -127,13 +127,10 @@ module _ {z : Sizes} (events : List ℕ) {table memo : List ℕ} where
         go x l (no q) = below.ahead x (omega arith) ∙ sym (label_beyond z (input_of events) table memo x (omega arith))
 
 -- by what is read; words that cannot be read have none
-module _ (input table memo : List ℕ) {o o' : Reading} (e : o ≡ o') where
-  pub labels_read_lem : {z : Sizes} {labels : List ℕ} → o ≡ Read z → labels ≡ labels_of z input table memo → labels ≡ labels_read o' input table memo
-  labels_read_lem q l = l ∙ ap (λ x. labels_read x input table memo) (sym q ∙ e)
-
-  pub labels_faulty : ((z : Sizes) → o ≡ Read z → ⊥) → replicate max_memo_entries 0 ≡ labels_read o' input table memo
+module _ (input table memo : List ℕ) {o o' : Result Sizes Error} (e : o ≡ o') where
+  pub labels_faulty : ((z : Sizes) → o ≡ Ok z → ⊥) → replicate max_memo_entries 0 ≡ labels_read o' input table memo
   labels_faulty t = go o t ∙ ap (λ x. labels_read x input table memo) e
     where
-      go : (x : Reading) → ((z : Sizes) → x ≡ Read z → ⊥) → replicate max_memo_entries 0 ≡ labels_read x input table memo
-      go (Read z) t = absurd (t z refl)
-      go (Faulty f) t = refl
+      go : (x : Result Sizes Error) → ((z : Sizes) → x ≡ Ok z → ⊥) → replicate max_memo_entries 0 ≡ labels_read x input table memo
+      go (Ok z) t = absurd (t z refl)
+      go (Err f) t = refl

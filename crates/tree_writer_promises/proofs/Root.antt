@@ -1,4 +1,5 @@
 -- Writing the tree from its root, by what judging left of an accepted input.
+use Rattle.std.specs.Prelude.{Ok}
 use mathlib.Core.Path.{◌≡◌, refl, sym, ap, ◌∙◌}
 use mathlib.Core.List.Memᴰ
 use mathlib.Core.List.{List, [], ◌∷◌, ◌++◌, map}
@@ -14,7 +15,6 @@ use Rattle.grammar.specs.Reading.{reading}
 use Rattle.grammar.specs.inner.Starts.{rule_starts}
 use Rattle.grammar.specs.inner.WellRead.{WellRead}
 use Rattle.grammar.specs.declared.reading.Sizes.{Sizes}
-use Rattle.grammar.specs.declared.reading.Reading.TheVariants.{Read}
 use Rattle.grammar.proofs.WellRead.{well_read}
 use Rattle.base.specs.FiniteSets.{member}
 use Rattle.semantics.specs.Valuations.{Valuation, Solves, solution, pairs}
@@ -59,7 +59,7 @@ module _ {words input table memo tree : List ℕ} (g : TreeGiven words input tab
   solves = (theorems.one_solution G g.accepted.predictive.scoped g.accepted.predictive.unrecursive input).solves
 
   -- the word made for a call of the tree is that of its vertex
-  label_right : {z : Sizes} → reading words ≡ Read z → (x : Call) → InTree G (choice_of words input) input x
+  label_right : {z : Sizes} → reading words ≡ Ok z → (x : Call) → InTree G (choice_of words input) input x
       → label_word z input table memo x.nonterminal x.place ≡ vertex_word_at words input x
   unfolding label_word vertex_word_at vertex_at outcome_code entry_at
   label_right {z} read x h =

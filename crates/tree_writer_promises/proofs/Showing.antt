@@ -1,11 +1,10 @@
 -- From the answer of judging to the tree that is written, and the promise of the call.
+use Rattle.std.specs.Prelude.{None, Option, Some}
 use mathlib.Core.Path.{◌≡◌, refl, sym, ap, ◌∙◌}
 use mathlib.Core.Bool.{Bool, true, false}
 use mathlib.Core.List.{List, [], ◌∷◌, ◌++◌}
-use mathlib.Core.Logic.{⊎_elim}
-use mathlib.Core.Option.{Option, none, some}
+use mathlib.Core.Option.{Option as Maybe, none, some}
 use denote.Enum.Declared.{tag_of}
-use types.Run.{OneOf}
 use Prim.Native.Nat.{ℕ, suc, ◌+◌, ◌*◌, ◌≤◌, ◌<◌}
 use native.Mathlib.Decide.{dec_lt}
 use native.Mathlib.Nat.{mul-le-mul}
@@ -30,8 +29,6 @@ use Rattle.grammar.specs.Codes.{uncalled_code}
 use Rattle.grammar.specs.Limits.{max_nonterminals, max_tokens, max_places, max_table_words, max_memo_entries}
 use Rattle.grammar.specs.Syntax.{Grammar}
 use Rattle.grammar.specs.Encoding.{grammar_of}
-use Rattle.event.specs.declared.Unknown.{Unknown}
-use Rattle.event.specs.declared.Unknown.TheVariants.{Absent, At}
 use Rattle.event.specs.Unknown.{unknown_from, unknown_fault}
 use Rattle.event.proofs.Known.{absent_known}
 use Rattle.semantics.specs.Valuations.{solution}
@@ -74,36 +71,33 @@ is_accepted Passed t = absurd (omega arith)
 is_accepted (Rejected c) t = absurd (omega arith)
 is_accepted (Accepted c) t = (c, refl)
 
-pub not_accepted : (a : Answer) → OneOf (0 ∷ 1 ∷ 2 ∷ []) (tag_of the_type a) → (c : Calls) → a ≡ Accepted c → ⊥
-not_accepted a t c e = ⊎_elim (λ e. omega arith) (⊎_elim (λ e. omega arith) (λ e. omega arith)) (rw e at t)
-
 -- an answer that is acceptance is no refusal and tells that the descent accepts
-accepted_tells : (f : Option Error) (b : Bool) (c d : Calls) → Accepted d ≡ refused_or f (choose b (Accepted c) (Rejected c)) → (f ≡ none) × (b ≡ true)
+accepted_tells : (f : Maybe Error) (b : Bool) (c d : Calls) → Accepted d ≡ refused_or f (choose b (Accepted c) (Rejected c)) → (f ≡ none) × (b ≡ true)
 accepted_tells (some e) b c d q = absurd (omega (arith, ap refusal_number q))
 accepted_tells none true c d q = (refl, refl)
 accepted_tells none false c d q = absurd (omega (arith, answer_number_lem q))
 
 -- and one that is not, tells that the call is refused or the descent rejects
-other_tells : (f : Option Error) (b : Bool) (c : Calls) → (Accepted c ≡ refused_or f (choose b (Accepted c) (Rejected c)) → ⊥) → (f ≡ none → b ≡ false)
+other_tells : (f : Maybe Error) (b : Bool) (c : Calls) → (Accepted c ≡ refused_or f (choose b (Accepted c) (Rejected c)) → ⊥) → (f ≡ none → b ≡ false)
 other_tells (some e) b c n q = absurd (none_some (sym q))
 other_tells none true c n q = absurd (n refl)
 other_tells none false c n q = refl
 
 -- how many words are written: a refusal gives none
-abbrev written_or : Option Error → ℕ → ℕ
+abbrev written_or : Maybe Error → ℕ → ℕ
 written_or (some e) n = 0
 written_or none n = n
 
-alone : (f : Option Error) → first_fault (f ∷ []) ≡ f
+alone : (f : Maybe Error) → first_fault (f ∷ []) ≡ f
 alone none = refl
 alone (some e) = refl
 
 -- the first fault of the call, by what holds, with so many words for the tree
 module _ (words input table memo : List ℕ) (room : ℕ) where
-  abbrev judged : Option Error
+  abbrev judged : Maybe Error
   judged = judge_fault One (length table) (length memo) words input
 
-  abbrev showing : Option Error
+  abbrev showing : Maybe Error
   showing = tree_fault (length table) (length memo) room words input
 
   first_table : length table < max_table_words → showing ≡ some TableTooShort
@@ -147,10 +141,6 @@ module _ (words input table memo : List ℕ) (room : ℕ) where
       → JudgesWithRoom words input table memo room (Refused MemoTooShort) table memo
   short_memo long h = refused_judged (first_memo long h) (λ _. memo_short One words input table memo long h)
 
-  pub short_tree : max_table_words ≤ length table → max_memo_entries ≤ length memo → room < max_memo_entries
-      → JudgesWithRoom words input table memo room (Refused TreeTooShort) table memo
-  short_tree long noted h = refused_judged (first_tree long noted h) (λ l. absurd (omega arith))
-
   pub judged_with_room : {a : Answer} {table' memo' : List ℕ} → max_table_words ≤ length table → max_memo_entries ≤ length memo → max_memo_entries ≤ room
       → Judges One words input table memo a table' memo' → JudgesWithRoom words input table memo room a table' memo'
   judged_with_room long noted h j = record { leaves = leaves_alike (then_judged long noted h) j.leaves; judges = λ _. j }
@@ -161,7 +151,7 @@ module _ {words input table memo : List ℕ} (tree : List ℕ) {a : Answer} {tab
   abbrev G : Grammar
   G = grammar_of words
 
-  abbrev fault : Option Error
+  abbrev fault : Maybe Error
   fault = tree_fault (length table) (length memo) (length tree) words input
 
   -- the promise from the words that are written
@@ -178,7 +168,7 @@ module _ {words input table memo : List ℕ} (tree : List ℕ) {a : Answer} {tab
     tells = t;
   }
     where
-      none_written : (g : Option Error) → fault ≡ g → (numbers a).verdict ≡ refused → written_or g (length (words_of words input)) ≡ 0
+      none_written : (g : Maybe Error) → fault ≡ g → (numbers a).verdict ≡ refused → written_or g (length (words_of words input)) ≡ 0
       none_written (some e) h q = refl
       none_written none h q = absurd (verdict_unrefused One G input (j.leaves.answer ∙ ap (λ f. refused_or f (verdict_of One G input)) h) q)
 
@@ -189,11 +179,11 @@ module _ {words input table memo : List ℕ} (tree : List ℕ) {a : Answer} {tab
       let t = other_tells fault (accepts G (choice_of words input) input) (calls_of One G input) (λ e. n (calls_of One G input) (j.leaves.answer ∙ sym e)) in
       shows (count fault t) (back fault t) (omega arith) (λ q. absurd (n (calls_of One G input) q))
     where
-      count : (f : Option Error) → (f ≡ none → accepts G (choice_of words input) input ≡ false) → 0 ≡ written_or f (length (words_of words input))
+      count : (f : Maybe Error) → (f ≡ none → accepts G (choice_of words input) input ≡ false) → 0 ≡ written_or f (length (words_of words input))
       count (some e) h = refl
       count none h = rw (h refl) refl
 
-      back : (f : Option Error) → (f ≡ none → accepts G (choice_of words input) input ≡ false) → tree ≡ lent_back f (words_of words input) tree
+      back : (f : Maybe Error) → (f ≡ none → accepts G (choice_of words input) input ≡ false) → tree ≡ lent_back f (words_of words input) tree
       back (some e) h = refl
       back none h = rw (h refl) refl
 
@@ -203,7 +193,7 @@ module _ {words input table memo : List ℕ} (tree : List ℕ) {a : Answer} {tab
     told = accepted_tells fault (accepts G (choice_of words input) input) (calls_of One G input) c (sym q ∙ j.leaves.answer)
 
     -- the memories are long enough, and judging has no fault
-    abbrev rows : List (Option Error)
+    abbrev rows : List (Maybe Error)
     rows =
         fault_if (ltb (length table) max_table_words) TableTooShort
         ∷ fault_if (ltb (length memo) max_memo_entries) MemoTooShort
@@ -233,9 +223,9 @@ module _ {words input table memo : List ℕ} (tree : List ℕ) {a : Answer} {tab
     short : length input ≤ max_tokens
     short = (judged_readable One words input (length table) (length memo) unfaulted).1
 
-    absent : (u : Unknown) → unknown_fault u ≡ none → u ≡ Absent
-    absent Absent e = refl
-    absent (At i) e = absurd (none_some (sym e))
+    absent : (u : Option ℕ) → unknown_fault u ≡ none → u ≡ None
+    absent None e = refl
+    absent (Some i) e = absurd (none_some (sym e))
 
     tokens : Over G.terminals input
     tokens =

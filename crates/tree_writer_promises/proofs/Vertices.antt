@@ -50,7 +50,7 @@ use Rattle.tree.proofs.Below.{comes_token, comes_name, below_chosen, below_make,
 use Rattle.tree.proofs.Trees.{tree_sound}
 use Rattle.tree_writer_promises.specs.inner.Labels.{label_rule, label_start, label_end, kind, marked_word}
 use Rattle.tree_writer_promises.specs.inner.Writer.{choice_of, vertex_word_at, Holds, VertexGiven, VertexDone, falling}
-use Rattle.tree_writer_promises.proofs.Marking.{holds_length, marked, unseen, label_fresh, count_low, room, holds_more}
+use Rattle.tree_writer_promises.proofs.Marking.{holds_length, marked, unseen, label_fresh, room, holds_more}
 
 abbrev pub level : List ℕ → List ℕ → ℕ → ℕ → ℕ
 level words input A place = measure (grammar_of words) input (call_at A place)
@@ -177,12 +177,6 @@ module _ {input words starts labels₀ tree₀ : List ℕ} {A start entry writte
       let i : entry % max_places ≡ start = omega (arith, g.stands, found.onward, found.within, g.accepted.short) in
       rw (q, a, i) refl
 
-  -- as many words as before
-  pub going_length : {labels tree : List ℕ} {count at place : ℕ} → Going labels tree count at place → length tree ≡ length tree₀
-  going_length u =
-      let s = u.holds g.lent g.seen g.holds (level words input A start) (omega arith) in
-      holds_length s.1 ranged names g.accepted.short ∙ sym (holds_length g.holds ranged names g.accepted.short)
-
   -- a call that is marked is written already
   pub vertex_seen : ltb (get_or labels₀ entry 0) kind ≡ true → VertexDone words input labels₀ tree₀ A start written written labels₀ tree₀
   unfolding visit
@@ -203,9 +197,6 @@ module _ {input words starts labels₀ tree₀ : List ℕ} {A start entry writte
 
     vertex_is : get_or labels₀ entry 0 ≡ vertex_word_at words input x
     vertex_is = ap (λ k. get_or labels₀ k 0) g.stands ∙ label_fresh g.holds ranged names g.accepted.short x g.in_tree fresh
-
-    pub written_low : written < max_memo_entries
-    written_low = count_low g.holds ranged names g.accepted.short x g.in_tree fresh
 
     pub tree_room : written < length tree₀
     tree_room =

@@ -12,7 +12,7 @@ use answer::Answer;
 const COUNTER_LIMIT: u32 = 4294967295;
 
 // Calls to the judge, those refused, those accepted, and the calls that all their descents made (document 02: called pairs in all).
-#[derive(Clone, Copy)]
+#[derive(Clone, Copy, Default)]
 pub struct Usage {
     pub calls: u32,
     pub refusals: u32,
@@ -23,11 +23,8 @@ pub struct Usage {
 fn add(counter: u32, n: usize) -> u32
     ensures { result ≡ saturated (counter + n) }
 {
-    let room = COUNTER_LIMIT - counter;
-    if n > room as usize {
-        return COUNTER_LIMIT;
-    }
-    counter + n as u32
+    let most = COUNTER_LIMIT as usize;
+    (counter as usize).saturating_add(n).min(most) as u32
 }
 
 impl Usage {
@@ -35,12 +32,7 @@ impl Usage {
     pub fn new() -> Usage
         ensures { result ≡ unused }
     {
-        Usage {
-            calls: 0,
-            refusals: 0,
-            acceptances: 0,
-            called: 0,
-        }
+        Usage::default()
     }
 
     // Each counter with what is added to it.
@@ -56,6 +48,7 @@ impl Usage {
     }
 
     // The record with this answer counted.
+    #[tactic(auto, unfolding(crate::specs::Histories::counted_answer, crate::specs::Counters::each_counter))]
     pub fn after(self, answer: Answer) -> Usage
         ensures { result ≡ counted_answer self answer }
     {

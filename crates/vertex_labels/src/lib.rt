@@ -1,41 +1,51 @@
 // The words of all vertices, made before the tree is written; places past the input's end have none.
 #![tactic(auto)]
 
-ghost use Rattle.std.specs.Prelude.{◌≡◌, min};
+ghost use Rattle.std.specs.Prelude.{◌≡◌, ◌+◌, ◌*◌, ◌<◌, min};
 ghost use Rattle.event.specs.Events.{input_of};
+ghost use Rattle.grammar.specs.Limits.{max_nonterminals, max_places};
 ghost use Rattle.grammar.specs.Reading.{reading};
-ghost use Rattle.tree_writer_promises.specs.inner.Labels.{labels_of, labels_read};
+ghost use Rattle.tree_writer_promises.specs.inner.Labels.{labels_of, labels_read, LabelledBelow};
 
 use grammar::limits::{MEMO_ENTRIES, NONTERMINALS, PLACES, TOKENS};
-use grammar::reading::{Reading, Sizes};
+use grammar::reading::Sizes;
 use reader::read;
 use vertex_words::label;
 
-// A number, or the most that there is room for.
-fn fitting(number: usize, room: usize) -> usize
-    ensures { result ≡ min number room }
+// The words of one nonterminal, at each place of the input; those of the nonterminals before it are made.
+fn label_row(
+    sizes: Sizes,
+    events: &[u8],
+    table: &[u32],
+    memo: &[u16],
+    nonterminal: usize,
+    labels: &mut [u32; MEMO_ENTRIES],
+)
+    requires row { nonterminal < min sizes.nonterminals max_nonterminals }
+    requires before { LabelledBelow sizes (input_of events.now) table.now memo.now (nonterminal * max_places) labels.old }
+    ensures { LabelledBelow sizes (input_of events.now) table.now memo.now ((nonterminal + 1) * max_places) labels.new }
 {
-    if number < room { number } else { room }
+    let places = events.len().min(TOKENS) + 1;
+    for place in 0..places {
+        labels[nonterminal * PLACES + place] = label(
+            sizes,
+            events,
+            table,
+            memo,
+            nonterminal as u8,
+            place as u16,
+        );
+    }
 }
 
 // By the sizes of a grammar: a row for each nonterminal, while there is room.
 fn labels_by(sizes: Sizes, events: &[u8], table: &[u32], memo: &[u16]) -> [u32; MEMO_ENTRIES]
     ensures { result ≡ labels_of sizes (input_of events.now) table.now memo.now }
 {
-    let rows = fitting(sizes.nonterminals as usize, NONTERMINALS as usize);
-    let last = fitting(events.len(), TOKENS);
     let mut labels = [0u32; MEMO_ENTRIES];
-    let mut nonterminal = 0;
-    let mut place = 0;
-    while nonterminal < rows {
-        let at = nonterminal * PLACES + place;
-        labels[at] = label(sizes, events, table, memo, nonterminal as u8, place as u16);
-        if place < last {
-            place = place + 1;
-        } else {
-            nonterminal = nonterminal + 1;
-            place = 0;
-        }
+    let rows = sizes.nonterminals.min(NONTERMINALS) as usize;
+    for nonterminal in 0..rows {
+        label_row(sizes, events, table, memo, nonterminal, &mut labels);
     }
     labels
 }
@@ -45,7 +55,7 @@ pub fn labels_of(words: &[u32], events: &[u8], table: &[u32], memo: &[u16]) -> [
     ensures { result ≡ labels_read (reading words.now) (input_of events.now) table.now memo.now }
 {
     let outcome = read(words);
-    let Reading::Read(sizes) = outcome else {
+    let Ok(sizes) = outcome else {
         return [0; MEMO_ENTRIES];
     };
     labels_by(sizes, events, table, memo)

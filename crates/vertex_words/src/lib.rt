@@ -1,7 +1,7 @@
 // The word of a call's vertex, made of what judging left in the lent memories; and its fields.
 #![tactic(auto)]
 
-ghost use Rattle.std.specs.Prelude.{◌≡◌, ◌%◌, ltb, get_or};
+ghost use Rattle.std.specs.Prelude.{◌≡◌, ◌%◌, ltb};
 ghost use Rattle.event.specs.Events.{input_of};
 ghost use Rattle.tree.specs.ParseTrees.{vertex};
 ghost use Rattle.tree.specs.Writing.{vertex_word};
@@ -21,6 +21,7 @@ const ENDS: u32 = 512;
 
 const KIND: u32 = 2147483648;
 
+#[tactic(auto, unfolding(tree::specs::Writing::vertex_word))]
 fn vertex_word(rule: u32, start: u16, end: u16) -> u32
     ensures { result ≡ vertex_word (vertex (label_rule rule) start (end % 512)) }
 {
@@ -59,20 +60,8 @@ pub fn is_marked(word: u32) -> bool
     word < KIND
 }
 
-// A word of the table, and an entry of the memo table; behind the last 0.
-fn word_at(table: &[u32], at: usize) -> u32
-    ensures { result ≡ get_or table.now at 0 }
-{
-    if at < table.len() { table[at] } else { 0 }
-}
-
-fn entry_at(memo: &[u16], at: usize) -> u16
-    ensures { result ≡ get_or memo.now at 0 }
-{
-    if at < memo.len() { memo[at] } else { 0 }
-}
-
-// The word for a call. Of a call that has not ended it says nothing, and it is not read.
+// The word for a call. Of a call that has not ended it says nothing, and it is not read. Behind the end of the table and of the memo table
+// stands 0.
 pub fn label(
     sizes: Sizes,
     events: &[u8],
@@ -89,10 +78,8 @@ pub fn label(
     let column = column_at(events, Lookahead::One, sizes.terminals, place as usize);
     let row = 2 * sizes.nonterminals as usize
         + nonterminal as usize * (sizes.terminals as usize + 1);
-    let rule = word_at(table, row + column as usize);
-    let end = entry_at(
-        memo,
-        nonterminal as usize * (events.len() + 1) + place as usize,
-    );
+    let rule = table.get(row + column as usize).copied().unwrap_or(0);
+    let entry = nonterminal as usize * (events.len() + 1) + place as usize;
+    let end = memo.get(entry).copied().unwrap_or(0);
     vertex_word(rule, place, end)
 }

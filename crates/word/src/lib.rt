@@ -24,6 +24,7 @@ pub enum Word {
 }
 
 // A word whose kind has no payload.
+#[tactic(auto, unfolding(crate::specs::Words::bare))]
 fn bare(word: Word, payload: u32) -> Word
     ensures { result ≡ bare_word word payload }
 {
@@ -51,6 +52,7 @@ fn payload(bits: u32) -> u32
 }
 
 // Each arm takes the payload for itself: where a caller cuts it further, both cuts are one step.
+#[tactic(auto, unfolding(crate::specs::Words::decoded, crate::specs::Words::of_kind))]
 pub fn decode(bits: u32) -> Word
     ensures { result ≡ decoded bits }
 {

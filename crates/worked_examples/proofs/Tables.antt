@@ -1,4 +1,5 @@
 -- The first and follow sets of document 01's grammars R, M and E, the words of their tables, and clashes, by computation.
+use Rattle.std.specs.Prelude.{None, Some}
 use mathlib.Core.List.{List, [], ◌∷◌, ◌++◌, map}
 use mathlib.Core.Path.{◌≡◌, refl, ap₂, ◌∙◌}
 use mathlib.Core.Option.{some}
@@ -19,7 +20,6 @@ use Rattle.semantics.specs.FirstFollow.{Entry, same_entry, entries, first_step, 
 use Rattle.semantics.specs.Claims.{clashes, table_of}
 use Rattle.semantics.specs.LeftRecursion.{lowest_left_recursive}
 use Rattle.semantics_examples.proofs.Computing.{tables_compute, left_recursion_computes}
-use Rattle.table_promises.specs.declared.Conflict.TheVariants.{Absent, At}
 use Rattle.base.specs.Lists.{listed}
 use Rattle.lookahead.specs.declared.Lookahead.TheVariants.{One, Two}
 use Rattle.lookahead.specs.Lookaheads.{string_of}
@@ -121,7 +121,7 @@ not_aBefore = record {
 abbrev not_aWhole : Grammar
 not_aWhole = record { nonterminals = 1; terminals = 1; rules = not_a 0 ∷ [] }
 
-overruns : first_clash One not_aBefore ≡ At 1 0
+overruns : first_clash One not_aBefore ≡ Some (1, 0)
 unfolding tables_compute row_conflict conflict_from first_clash column_string
 overruns = refl
 
@@ -130,7 +130,7 @@ unfolding tables_compute listed total_weight string_of set_number first_number f
     row_word entry_at column_string table_of clashes
 takes_all = (refl, refl)
 
-claimed_twice : first_clash One twice_a ≡ At 0 0
+claimed_twice : first_clash One twice_a ≡ Some (0, 0)
 unfolding tables_compute row_conflict conflict_from first_clash column_string
 claimed_twice = refl
 
@@ -141,11 +141,11 @@ rule_of b = record { head = 0; positives = b ∷ []; negatives = [] }
 abbrev second_tells : Grammar
 second_tells = record { nonterminals = 1; terminals = 3; rules = rule_of (Terminal 0 ∷ Terminal 1 ∷ []) ∷ rule_of (Terminal 0 ∷ Terminal 2 ∷ []) ∷ [] }
 
-one_refuses : first_clash One second_tells ≡ At 0 0
+one_refuses : first_clash One second_tells ≡ Some (0, 0)
 unfolding tables_compute row_conflict conflict_from first_clash column_string
 one_refuses = refl
 
-two_takes : (first_clash Two second_tells ≡ Absent)
+two_takes : (first_clash Two second_tells ≡ None)
     × (table_words Two second_tells ≡ 1536 ∷ 1 ∷ (replicate 9 no_entry ++ 0 ∷ 1 ∷ replicate 46 no_entry))
 unfolding tables_compute row_conflict conflict_from first_clash listed total_weight string_of set_number first_number follow_number first follow table_words
     set_word row_word entry_at column_string table_of
@@ -160,7 +160,7 @@ twice_or_more = record {
       ∷ record { head = 1; positives = [] ∷ []; negatives = [] } ∷ record { head = 1; positives = (Terminal 1 ∷ []) ∷ []; negatives = [] } ∷ [];
 }
 
-by_column : (first_clash Two twice_or_more ≡ At 0 1) × (clashes twice_or_more 2 ≡ (0, 0 ∷ 1 ∷ []) ∷ (0, 0 ∷ []) ∷ [])
+by_column : (first_clash Two twice_or_more ≡ Some (0, 1)) × (clashes twice_or_more 2 ≡ (0, 0 ∷ 1 ∷ []) ∷ (0, 0 ∷ []) ∷ [])
 unfolding tables_compute row_conflict conflict_from first_clash string_of column_string clashes
 by_column = (refl, refl)
 

@@ -1,7 +1,8 @@
 -- Where a cursor stands in the memo table, and what is printed of the entry there.
 use Rattle.std.specs.Prelude.{◌≡◌, List, ℕ, ◌+◌, ◌*◌, ◌/◌, ◌%◌, ◌≤◌, get_or}
 use Rattle.grammar.specs.Codes.{uncalled_code}
-use Rattle.text.specs.Writing.{Put}
+use Rattle.text.specs.declared.Output.{Output}
+use Rattle.text.specs.inner.Outputs.{Puts}
 use Rattle.calls_text.specs.declared.cursor.Cursor.{Cursor}
 use Rattle.calls_text.specs.Calls.{call_text}
 
@@ -11,7 +12,7 @@ pub record Stands (tokens : ℕ) (c : Cursor) : Type 0 where
   pub in_row : c.place ≤ tokens
 
 -- For a cursor that stands in rows of so many tokens, the text put is that of the entry at its index.
-abbrev pub EntryPut : List ℕ → ℕ → Cursor → List ℕ → List ℕ → ℕ → Type 0
-EntryPut out at c memo out' next =
+abbrev pub EntryPut : Cursor → List ℕ → Output → Output → Type 0
+EntryPut c memo before after =
     (tokens : ℕ) → Stands tokens c
-    → Put out at (call_text (c.index / (tokens + 1)) (c.index % (tokens + 1)) (get_or memo c.index uncalled_code)) out' next
+    → Puts (call_text (c.index / (tokens + 1)) (c.index % (tokens + 1)) (get_or memo c.index uncalled_code)) before after

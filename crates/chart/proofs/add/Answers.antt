@@ -22,7 +22,7 @@ loop-at-init c =
 
 pub loop-at-preserved : goal.loop-at-preserved
 loop-at-preserved c = (
-  inl (omega (arith, c.loop-at-test.true)),
+  inl (omega arith),
   adding_more _ _ _ _ c.loop-at.at c.loop-at.invariant.1 (digit c.args.word c.loop-at.at) c.put.ensures,
 )
 

@@ -5,8 +5,4 @@ use Rattle.tabular_promises.specs.inner.Chart.{gathered}
 use Rattle.chart.proofs.before.Given as goal
 
 abbrev pub invariant-loop-at : goal.invariant-loop-at
-invariant-loop-at l =
-    (l.start ≤ l.at) × (l.at - l.start ≤ suc l.end - l.start) × (l.found ≡ gathered l.chart l.nonterminal l.set l.start (l.at - l.start))
-
-abbrev pub decreases-loop-at : goal.decreases-loop-at
-decreases-loop-at l = suc l.end - l.at
+invariant-loop-at l = (l.at - l.start ≤ suc l.end - l.start) × (l.found ≡ gathered l.chart l.nonterminal l.set l.start (l.at - l.start))

@@ -1,9 +1,10 @@
 -- What a check answers, by what is found of a grammar.
+use Rattle.std.specs.Prelude.{Err, Ok, Result}
+use Rattle.answer.specs.declared.Error.{Error}
+use Rattle.grammar.specs.declared.reading.Sizes.{Sizes}
 use Rattle.answer.specs.declared.Answer.{Answer}
 use Rattle.answer.specs.declared.Answer.TheVariants as answer
-use Rattle.families.specs.declared.Finding.{Finding}
-use Rattle.families.specs.declared.Finding.TheVariants.{Passed, Refused}
 
-abbrev pub answer_of : Finding → Answer
-answer_of (Passed z) = answer.Passed
-answer_of (Refused e) = answer.Refused e
+abbrev pub answer_of : Result Sizes Error → Answer
+answer_of (Ok z) = answer.Passed
+answer_of (Err e) = answer.Refused e

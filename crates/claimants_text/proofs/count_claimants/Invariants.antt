@@ -1,11 +1,8 @@
 -- The loop keeps the count of the rules passed.
-use Prim.Native.Nat.{◌-◌}
+use mathlib.Core.Path.{◌≡◌}
+use Rattle.base.specs.Quantifiers.{count_below}
 use Rattle.claims.specs.inner.Claims.{claimant}
-use Rattle.gaps_text_promises.proofs.Lines.{Counting}
 use Rattle.claimants_text.proofs.count_claimants.Given as goal
 
 abbrev pub invariant-loop-rule : goal.invariant-loop-rule
-invariant-loop-rule l = Counting (claimant l.heads l.sets l.nonterminal l.element) l.rules l.n l.rule
-
-abbrev pub decreases-loop-rule : goal.decreases-loop-rule
-decreases-loop-rule l = l.rules - l.rule
+invariant-loop-rule l = l.n ≡ count_below l.rule (claimant l.heads l.sets l.nonterminal l.element)

@@ -1,9 +1,8 @@
 -- What each rule claims, as a number: found once, so that conflicts, entries and the table's words are read off it.
-use Rattle.std.specs.Prelude.{◌≡◌, Bool, ◌&&◌, List, map, ℕ, ◌≤◌, ◌<◌, eqb, get_or, replicate}
+use Rattle.std.specs.Prelude.{Ok, Result, ◌≡◌, Bool, ◌&&◌, List, map, ℕ, ◌≤◌, ◌<◌, eqb, get_or, replicate}
 use Rattle.std.proofs.Math.Option.{Option, none, some}
 use Rattle.answer.specs.declared.Error.{Error}
 use Rattle.grammar.specs.declared.reading.Sizes.{Sizes}
-use Rattle.grammar.specs.declared.reading.Reading.TheVariants.{Read}
 use Rattle.grammar.specs.Encoding.{grammar_of}
 use Rattle.grammar.specs.Limits.{max_nonterminals, max_rules}
 use Rattle.grammar.specs.inner.Starts.{rule_starts}
@@ -15,7 +14,6 @@ use Rattle.base.specs.FiniteSets.{member}
 use Rattle.base.specs.Strings.{same_string}
 use Rattle.semantics.specs.Claims.{claimed, overruns}
 use Rattle.admission.specs.Admission.{admission}
-use Rattle.families.specs.declared.Finding.{Finding}
 use Rattle.families.specs.Analysis.{sets_fault, finding_of}
 use Rattle.families.specs.inner.Analysis.{starts_if, by_rule_if, sets_if}
 use Rattle.base.specs.Lists.{listed}
@@ -44,7 +42,7 @@ overruns_if (some e) l = replicate max_nonterminals 0
 
 -- its finding, where its rules begin, its sets; for each rule its head and what it claims, and for each nonterminal what is reported of it
 pub record Claims : Type 0 where
-  pub finding : Finding
+  pub finding : Result Sizes Error
   pub starts : List ℕ
   pub firsts : List ℕ
   pub follows : List ℕ
@@ -52,7 +50,7 @@ pub record Claims : Type 0 where
   pub sets : List ℕ
   pub overruns : List ℕ
 
-abbrev pub claims_with : Finding → List ℕ → List ℕ → List ℕ → List ℕ → List ℕ → List ℕ → Claims
+abbrev pub claims_with : Result Sizes Error → List ℕ → List ℕ → List ℕ → List ℕ → List ℕ → List ℕ → Claims
 claims_with f starts firsts follows heads sets told =
     record { finding = f; starts = starts; firsts = firsts; follows = follows; heads = heads; sets = sets; overruns = told }
 
@@ -78,7 +76,7 @@ pub record Headed (heads : List ℕ) (rules nonterminals : ℕ) : Type 0 where
 
 -- a grammar that is admitted, where its rules begin, what the positives of each can all begin with, and its follow sets
 pub record FamiliesGiven (k : Lookahead) (words : List ℕ) (z : Sizes) (starts meets follows : List ℕ) : Type 0 where
-  pub read : admission k words ≡ Read z
+  pub read : admission k words ≡ Ok z
   pub begins : starts ≡ rule_starts words
   pub met : meets ≡ by_rule (meet_numbers k (grammar_of words))
   pub follow : follows ≡ listed max_nonterminals (follow_number k (grammar_of words))

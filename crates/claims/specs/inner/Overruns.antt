@@ -1,9 +1,8 @@
 -- The nonterminals with a rule without positives that more than the end can follow, found by heads, positives and follow sets.
-use Rattle.std.specs.Prelude.{◌≡◌, Bool, ◌&&◌, List, map, ℕ, eqb, length, get_or}
+use Rattle.std.specs.Prelude.{Ok, ◌≡◌, Bool, ◌&&◌, List, map, ℕ, eqb, length, get_or}
 use Rattle.base.specs.Choice.{choose}
 use Rattle.base.specs.Quantifiers.{any_of}
 use Rattle.grammar.specs.declared.reading.Sizes.{Sizes}
-use Rattle.grammar.specs.declared.reading.Reading.TheVariants.{Read}
 use Rattle.grammar.specs.Encoding.{grammar_of}
 use Rattle.grammar.specs.Limits.{max_nonterminals}
 use Rattle.grammar.specs.Reading.{reading}
@@ -25,7 +24,7 @@ overrun_set k b = choose b (terminal k 0) empty_set
 
 -- a grammar that has been read, where its rules begin, and their heads
 pub record HeadsGiven (words starts heads : List ℕ) (z : Sizes) : Type 0 where
-  pub read : reading words ≡ Read z
+  pub read : reading words ≡ Ok z
   pub begins : starts ≡ rule_starts words
   pub own : heads ≡ by_rule (map (λ r. r.head) (grammar_of words).rules)
 

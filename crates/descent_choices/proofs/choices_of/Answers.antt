@@ -4,9 +4,7 @@ use Rattle.descent_choices.proofs.ChoiceRows.{rows_none, rows_all}
 use Rattle.descent_choices.proofs.choices_of.Goals as goal
 
 pub loop-nonterminal-init : goal.loop-nonterminal-init
-loop-nonterminal-init c = (omega arith, rows_none _ _ _ _)
+loop-nonterminal-init c = rows_none _ _ _ _
 
 pub returns : goal.returns
-returns c =
-    rows_all _ _ _ _ _ (omega (arith, c.loop-nonterminal-test.false, c.loop-nonterminal.invariant.0, c.fitting-rows.ensures)) c.fitting-wide.ensures
-    c.fitting-long.ensures c.loop-nonterminal.invariant.1
+returns c = rows_all _ _ _ _ _ (omega arith) c.min-wide.ensures c.min-long.ensures c.loop-nonterminal.invariant

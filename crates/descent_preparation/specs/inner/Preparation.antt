@@ -1,13 +1,12 @@
 -- What a descent starts from: on the input of a log, in a search, and on the input of a number.
-use Rattle.std.specs.Prelude.{◌≡◌, List, ◌++◌, ℕ, ◌+◌, ◌-◌, ◌%◌, min, length, replicate, drop}
+use Rattle.std.specs.Prelude.{Err, Ok, Result, ◌≡◌, List, ◌++◌, ℕ, ◌+◌, ◌-◌, ◌%◌, min, length, replicate, drop}
+use Rattle.answer.specs.declared.Error.{Error}
 use Rattle.event.specs.Events.{input_of}
 use Rattle.grammar.specs.Codes.{uncalled_code}
 use Rattle.grammar.specs.Limits.{max_tokens}
 use Rattle.grammar.specs.declared.reading.Sizes.{Sizes}
 use Rattle.lookahead.specs.declared.Lookahead.{Lookahead}
 use Rattle.lookahead.specs.declared.Lookahead.TheVariants.{One}
-use Rattle.families.specs.declared.Finding.{Finding}
-use Rattle.families.specs.declared.Finding.TheVariants.{Passed, Refused}
 use Rattle.columns.specs.Columns.{column_count}
 use Rattle.inputs.specs.inner.Inputs.{input_at, input_count}
 use Rattle.table.specs.inner.Analysis.{found_of}
@@ -21,9 +20,9 @@ use Rattle.descent_preparation.specs.declared.Prepared.{Prepared}
 use Rattle.descent_preparation.specs.declared.PreparedSearch.{PreparedSearch}
 
 -- the sizes of a grammar that passed; else of one that has nothing
-abbrev pub sizes_of : Finding → Sizes
-sizes_of (Passed z) = z
-sizes_of (Refused e) = record { nonterminals = 0; terminals = 0; rules = 0 }
+abbrev pub sizes_of : Result Sizes Error → Sizes
+sizes_of (Ok z) = z
+sizes_of (Err e) = record { nonterminals = 0; terminals = 0; rules = 0 }
 
 -- the last of so many terminals, of which there are at most 256
 abbrev pub last_of : ℕ → ℕ

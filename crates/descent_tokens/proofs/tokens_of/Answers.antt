@@ -1,5 +1,5 @@
 -- The loop keeps: the words of the events passed are written, over words of the end.
-use mathlib.Core.Path.{sym, ap, ap₂, ◌∙◌}
+use mathlib.Core.Path.{◌≡◌, sym, ap, ap₂, ◌∙◌}
 use Prim.Native.Nat.{◌+◌}
 use native.Mathlib.Omega.{arith}
 use lib.ListN.{length}
@@ -18,7 +18,7 @@ loop-place-init c =
     let n = c.args.terminals in
     let input = input_of c.args.events.now in
     let column = c.column_end.ensures ∙ sym (column_end_lem k n input (length input) (omega arith)) in
-    (omega arith, written_none k n input (c.word_of-end.ensures ∙ ap (λ x. token_word x end_mark) column))
+    written_none k n input (c.word_of-end.ensures ∙ ap (λ x. token_word x end_mark) column)
 
 pub loop-place-preserved : goal.loop-place-preserved
 loop-place-preserved c =
@@ -26,41 +26,33 @@ loop-place-preserved c =
     let n = c.args.terminals in
     let events = c.args.events.now in
     let place = c.loop-place.place in
-    let taken = c.loop-place-test.true in
-    let most = c.fitting-count.ensures in
     let token = c.terminal_of-terminal.ensures ∙ sym (input_at events place) in
     let next = c.terminal_of.ensures ∙ sym (input_at events (place + 1)) in
     let column =
     c.column_before-column.ensures
     ∙ ap₂ (column_before k) token next
-    ∙ sym (column_inner k n (input_of events) place (omega (arith, taken, most, input_length events))) in (
-      omega (arith, taken),
-      written_more k n (input_of events) c.loop-place.invariant.1 (omega (arith, taken, most)) (omega (arith, taken, most, input_length events))
-          (c.word_of.ensures ∙ ap₂ token_word column token),
-    )
+    ∙ sym (column_inner k n (input_of events) place (omega (arith, input_length events))) in
+    written_more k n (input_of events) c.loop-place.invariant (omega arith) (omega (arith, input_length events))
+    (c.word_of.ensures ∙ ap₂ token_word column token)
 
-pub returns-then-fitting-place : goal.returns-then-fitting-place
-returns-then-fitting-place c =
+pub returns-then-min-followed : goal.returns-then-min-followed
+returns-then-min-followed c =
     let events = c.args.events.now in
-    written_all c.args.lookahead c.args.terminals (input_of events)
-    (omega (arith, c.if-fitting-place.true, c.fitting.ensures, c.loop-place.invariant.0, c.fitting-count.ensures, input_length events))
-    c.loop-place.invariant.1
+    written_all c.args.lookahead c.args.terminals (input_of events) (omega (arith, input_length events)) c.loop-place.invariant
 
 pub returns : goal.returns
 returns c =
     let k = c.args.lookahead in
     let n = c.args.terminals in
     let events = c.args.events.now in
-    let place = c.loop-place.place in
-    let left = c.if-fitting-place.false in
-    let most = c.fitting-count.ensures in
-    let fits = c.fitting.ensures in
+    let place = c.min-followed.result in
+    let passed : c.loop-place.place ≡ place = omega arith in
     let long = input_length events in
     let token = c.terminal_of-terminal-2.ensures ∙ sym (input_at events place) in
     let column =
     c.column_last.ensures
     ∙ ap (column_last k) token
-    ∙ sym (column_last_lem k n (input_of events) place (omega (arith, left, fits, most)) (omega (arith, left, fits, c.loop-place-test.false, most))) in
-    written_all k n (input_of events) (omega (arith, left, fits, c.loop-place-test.false, most))
-    (written_more k n (input_of events) c.loop-place.invariant.1 (omega (arith, left, fits)) (omega (arith, left, fits, most))
+    ∙ sym (column_last_lem k n (input_of events) place (omega (arith, long)) (omega (arith, long))) in
+    written_all k n (input_of events) (omega (arith, long))
+    (written_more k n (input_of events) (rw passed at c.loop-place.invariant) (omega arith) (omega (arith, long))
     (c.word_of-2.ensures ∙ ap₂ token_word column token))

@@ -1,13 +1,7 @@
 -- The loop keeps: the words of the events passed are written, over words of the end.
-use Prim.Native.Nat.{◌-◌, ◌≤◌, min}
-use Rattle.grammar.specs.Limits.{max_places}
 use Rattle.event.specs.Events.{input_of}
 use Rattle.descent_tokens.proofs.TokenWords.{Written}
 use Rattle.descent_tokens.proofs.tokens_of.Given as goal
 
 abbrev pub invariant-loop-place : goal.invariant-loop-place
-invariant-loop-place l =
-    (l.place ≤ min l.count max_places) × Written l.lookahead l.terminals (input_of l.events) l.place l.tokens
-
-abbrev pub decreases-loop-place : goal.decreases-loop-place
-decreases-loop-place l = l.count - l.place
+invariant-loop-place l = Written l.lookahead l.terminals (input_of l.events) l.place l.tokens

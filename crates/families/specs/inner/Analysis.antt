@@ -1,5 +1,6 @@
 -- All that is found of an encoded grammar before its table is made: its finding, where its rules begin, and its families of sets.
-use Rattle.std.specs.Prelude.{List, ℕ, replicate}
+use Rattle.std.specs.Prelude.{Err, Result, List, ℕ, replicate}
+use Rattle.grammar.specs.declared.reading.Sizes.{Sizes}
 use Rattle.std.proofs.Math.Option.{Option, none, some}
 use Rattle.answer.specs.declared.Error.{Error}
 use Rattle.grammar.specs.Limits.{max_nonterminals, max_rules}
@@ -7,8 +8,6 @@ use Rattle.grammar.specs.Encoding.{grammar_of}
 use Rattle.grammar.specs.inner.Starts.{rule_starts}
 use Rattle.lookahead.specs.declared.Lookahead.{Lookahead}
 use Rattle.admission.specs.Admission.{admission}
-use Rattle.families.specs.declared.Finding.{Finding}
-use Rattle.families.specs.declared.Finding.TheVariants.{Refused}
 use Rattle.families.specs.declared.Families.{Families}
 use Rattle.base.specs.Lists.{listed}
 use Rattle.families.specs.inner.RuleLists.{by_rule}
@@ -31,17 +30,17 @@ abbrev pub sets_if : Option Error → List ℕ → List ℕ
 sets_if none l = l
 sets_if (some e) l = replicate max_nonterminals 0
 
-abbrev pub families : Finding → List ℕ → List ℕ → List ℕ → List ℕ → List ℕ → Families
+abbrev pub families : Result Sizes Error → List ℕ → List ℕ → List ℕ → List ℕ → List ℕ → Families
 families f starts firsts meets follows reaches =
     record { finding = f; starts = starts; firsts = firsts; meets = meets; follows = follows; reaches = reaches }
 
 -- the same with no follow sets yet
-abbrev pub unfollowed : Finding → List ℕ → List ℕ → List ℕ → List ℕ → Families
+abbrev pub unfollowed : Result Sizes Error → List ℕ → List ℕ → List ℕ → List ℕ → Families
 unfollowed f starts firsts meets reaches = families f starts firsts meets (replicate max_nonterminals 0) reaches
 
 abbrev pub refused_by : Error → Families
 refused_by e =
-    families (Refused e) (replicate max_rules 0) (replicate max_nonterminals 0) (replicate max_rules 0) (replicate max_nonterminals 0)
+    families (Err e) (replicate max_rules 0) (replicate max_nonterminals 0) (replicate max_rules 0) (replicate max_nonterminals 0)
     (replicate max_nonterminals 0)
 
 -- the same with other follow sets

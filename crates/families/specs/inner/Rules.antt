@@ -1,11 +1,10 @@
 -- The rules of a grammar that has been read, as passes over them go: in which order, and where the words of each stand.
-use Rattle.std.specs.Prelude.{◌≡◌, Bool, true, false, List, [], ◌∷◌, ℕ, suc, ◌+◌, ◌-◌, ◌%◌, ◌≤◌, ◌<◌, ltb, length, get_or, drop}
+use Rattle.std.specs.Prelude.{Ok, ◌≡◌, Bool, true, false, List, [], ◌∷◌, ℕ, suc, ◌+◌, ◌-◌, ◌%◌, ◌≤◌, ◌<◌, ltb, length, get_or, drop}
 use Rattle.base.specs.Choice.{choose}
 use Rattle.word.specs.declared.Word.{Word}
 use Rattle.word.specs.declared.Word.TheVariants.{Heading, Rule as RuleWord, Positive, Negative, Symbol, End, Invalid}
 use Rattle.word.specs.Words.{decoded}
 use Rattle.grammar.specs.declared.reading.Sizes.{Sizes}
-use Rattle.grammar.specs.declared.reading.Reading.TheVariants.{Read}
 use Rattle.grammar.specs.Limits.{max_nonterminals, max_rules}
 use Rattle.grammar.specs.Syntax.{Rule}
 use Rattle.grammar.specs.Encoding.{Parsed, parse}
@@ -51,7 +50,7 @@ Inside Invalid = ⊥
 -- the words of the rule that begins at an index
 pub record RuleWords (words : List ℕ) (start end : ℕ) : Type 0 where
   pub sizes : Sizes
-  pub read : reading words ≡ Read sizes
+  pub read : reading words ≡ Ok sizes
   pub some : start < end
   pub within : end ≤ length words
   pub ended : Ended (parse (drop end words))
@@ -60,7 +59,7 @@ pub record RuleWords (words : List ℕ) (start end : ℕ) : Type 0 where
 -- the words of a rule from one body on to another, or to the end
 pub record BodyWords (words : List ℕ) (from to : ℕ) : Type 0 where
   pub sizes : Sizes
-  pub read : reading words ≡ Read sizes
+  pub read : reading words ≡ Ok sizes
   pub some : from ≤ to
   pub within : to ≤ length words
   pub whole : (parse (drop to words)).body ≡ []
@@ -84,6 +83,6 @@ pub record ByRules (n : ℕ) (l : List ℕ) : Type 0 where
 
 -- what a pass over the rules of a grammar that has been read needs
 pub record PassGiven (words starts : List ℕ) (z : Sizes) (sets : List ℕ) : Type 0 where
-  pub read : reading words ≡ Read z
+  pub read : reading words ≡ Ok z
   pub begins : starts ≡ rule_starts words
   pub long : length sets ≡ max_nonterminals

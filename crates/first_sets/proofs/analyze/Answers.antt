@@ -3,6 +3,5 @@ use mathlib.Core.Path.{◌∙◌}
 use Rattle.families.proofs.Findings.{firsts_faulty}
 use Rattle.first_sets.proofs.analyze.Goals as goal
 
-pub returns-in-Faulty : goal.returns-in-Faulty
-returns-in-Faulty c =
-    c.refused.ensures ∙ firsts_faulty _ _ c.admit-outcome.ensures c.in-Faulty.is
+pub returns-in-Err : goal.returns-in-Err
+returns-in-Err c = c.refused.ensures ∙ firsts_faulty _ _ c.admit.ensures c.in-Err.is

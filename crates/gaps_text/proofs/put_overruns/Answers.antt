@@ -1,19 +1,13 @@
 -- The loop keeps: the lines of the nonterminals passed are put.
 use mathlib.Core.Path.{refl}
-use native.Mathlib.Omega.{arith}
-use Rattle.text.specs.Writing.{up_to}
-use Rattle.text.proofs.Writing.{put_none, put_next, put_last}
+use Rattle.text.proofs.Outputs.{puts_first, puts_next}
 use Rattle.gaps_text_promises.specs.inner.Steps.{overruns_text}
 use Rattle.gaps_text.proofs.put_overruns.Goals as goal
 
 pub loop-nonterminal-init : goal.loop-nonterminal-init
-unfolding up_to
-loop-nonterminal-init c = (omega arith, put_none _ _)
+unfolding overruns_text
+loop-nonterminal-init c = puts_first _ _
 
 pub loop-nonterminal-preserved : goal.loop-nonterminal-preserved
-loop-nonterminal-preserved c =
-    (omega arith, put_next _ _ refl c.loop-nonterminal.invariant.1 c.put_overrun-next.ensures)
-
-pub returns : goal.returns
 unfolding overruns_text
-returns c = put_last _ c.loop-nonterminal.invariant.0 c.loop-nonterminal-test.false c.loop-nonterminal.invariant.1
+loop-nonterminal-preserved c = puts_next _ _ refl c.loop-nonterminal.invariant c.put_overrun.ensures

@@ -1,20 +1,18 @@
--- The loop keeps: the lines of the columns passed are put.
-use mathlib.Core.Path.{refl}
+-- The loop keeps: the lines of the columns passed are put; there are no more rules than there may be.
+use mathlib.Core.Path.{◌≡◌, ap}
+use Prim.Native.Nat.{min}
 use native.Mathlib.Omega.{arith}
-use Rattle.gaps_text_promises.specs.inner.Steps.{row_text}
-use Rattle.gaps_text_promises.proofs.Lines.{line_of_all}
-use Rattle.text.specs.Writing.{up_to}
-use Rattle.text.proofs.Writing.{put_none, put_next, put_last}
+use Rattle.grammar.specs.Limits.{max_rules}
+use Rattle.text.proofs.Outputs.{puts_first, puts_next}
+use Rattle.gaps_text_promises.specs.inner.Steps.{entry_line, claimant_at}
 use Rattle.gaps_text.proofs.put_row.Goals as goal
 
 pub loop-column-init : goal.loop-column-init
-unfolding up_to
-loop-column-init c = (omega arith, put_none _ _)
+loop-column-init c = puts_first _ _
 
 pub loop-column-preserved : goal.loop-column-preserved
 loop-column-preserved c =
-    (omega arith, put_next _ _ refl c.loop-column.invariant.1 (line_of_all c.requires.0 c.put_entry-next.ensures))
-
-pub returns : goal.returns
-unfolding row_text
-returns c = put_last _ c.loop-column.invariant.0 c.loop-column-test.false c.loop-column.invariant.1
+    let a = c.args in
+    let all : min a.sizes.rules max_rules ≡ a.sizes.rules = omega (arith, c.requires.rules) in
+    let claims = claimant_at a.heads.now a.sets.now a.sizes.terminals a.nonterminal c.loop-column.column in
+    puts_next _ _ (ap (λ n. entry_line n claims a.nonterminal c.loop-column.column) all) c.loop-column.invariant c.put_entry.ensures

@@ -1,14 +1,10 @@
--- The loop keeps: the rows of the nonterminals passed are put.
+-- The loop keeps: the lines of the nonterminals passed are put.
 use mathlib.Core.Path.{refl}
-use native.Mathlib.Omega.{arith}
-use Rattle.text.specs.Writing.{up_to}
-use Rattle.text.proofs.Writing.{put_none, put_next}
+use Rattle.text.proofs.Outputs.{puts_first, puts_next}
 use Rattle.gaps_text.proofs.put_rows.Goals as goal
 
 pub loop-nonterminal-init : goal.loop-nonterminal-init
-unfolding up_to
-loop-nonterminal-init c = (omega arith, put_none _ _)
+loop-nonterminal-init c = puts_first _ _
 
 pub loop-nonterminal-preserved : goal.loop-nonterminal-preserved
-loop-nonterminal-preserved c =
-    (omega arith, put_next _ _ refl c.loop-nonterminal.invariant.1 c.put_row-next.ensures)
+loop-nonterminal-preserved c = puts_next _ _ refl c.loop-nonterminal.invariant c.put_row.ensures

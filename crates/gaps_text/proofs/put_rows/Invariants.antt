@@ -1,13 +1,9 @@
--- The loop keeps: the rows of the nonterminals passed are put.
-use Prim.Native.Nat.{◌≤◌, ◌-◌}
-use Rattle.gaps_text_promises.specs.inner.Steps.{claimant_at, row_text}
-use Rattle.text.specs.Writing.{Put, up_to}
+-- The loop keeps: the lines of the nonterminals passed are put.
+use Rattle.text.specs.inner.Outputs.{Puts}
+use Rattle.text.specs.Writing.{up_to}
+use Rattle.gaps_text_promises.specs.inner.Steps.{row_text, claimant_at}
 use Rattle.gaps_text.proofs.put_rows.Given as goal
 
 abbrev pub invariant-loop-nonterminal : goal.invariant-loop-nonterminal
 invariant-loop-nonterminal l =
-    (l.nonterminal ≤ l.nonterminals) × Put l.initial.out l.at
-    (up_to l.nonterminal (row_text l.sizes (claimant_at l.heads l.sets l.sizes.terminals))) l.out l.next
-
-abbrev pub decreases-loop-nonterminal : goal.decreases-loop-nonterminal
-decreases-loop-nonterminal l = l.nonterminals - l.nonterminal
+    Puts (up_to l.nonterminal (row_text l.sizes (claimant_at l.heads l.sets l.sizes.terminals))) l.initial.output l.output

@@ -1,5 +1,6 @@
 -- The lines as the code puts them: row by row, by a test for the rules that claim an entry and one for the nonterminals that overrun.
-use Rattle.std.specs.Prelude.{Bool, not, ◌&&◌, List, [], ◌++◌, ℕ, ◌+◌, min, eqb, leb, get_or}
+use Rattle.std.specs.Prelude.{Err, Ok, Result, Bool, not, ◌&&◌, List, [], ◌++◌, ℕ, ◌+◌, ◌≤◌, eqb, leb, get_or}
+use Rattle.answer.specs.declared.Error.{Error}
 use Rattle.base.specs.Choice.{choose}
 use Rattle.base.specs.Quantifiers.{count_below}
 use Rattle.grammar.specs.declared.reading.Sizes.{Sizes}
@@ -7,8 +8,6 @@ use Rattle.grammar.specs.Limits.{max_nonterminals, max_terminals, max_rules}
 use Rattle.grammar.specs.Syntax.{Grammar}
 use Rattle.lookahead.specs.declared.Lookahead.TheVariants.{One}
 use Rattle.lookahead.specs.inner.Operations.{is_empty}
-use Rattle.families.specs.declared.Finding.{Finding}
-use Rattle.families.specs.declared.Finding.TheVariants.{Passed, Refused}
 use Rattle.claims.specs.inner.Claims.{claimant}
 use Rattle.columns.specs.inner.Columns.{column_element}
 use Rattle.columns.specs.Columns.{column_string}
@@ -53,10 +52,6 @@ claims_at G A c = claims_by G (A, column_string One G.terminals c)
 abbrev pub claimant_at : (heads sets : List ℕ) (terminals : ℕ) → ℕ → ℕ → ℕ → Bool
 claimant_at heads sets terminals A c = claimant heads sets A (column_element One terminals c)
 
--- the line of an entry is put, by as many of the rules as there may be
-pub record EntryPut (heads sets : List ℕ) (z : Sizes) (A c : ℕ) (before : List ℕ) (at : ℕ) (after : List ℕ) (n : ℕ) : Type 0 where
-  pub put : Put before at (entry_line (min z.rules max_rules) (claimant_at heads sets z.terminals A c) A c) after n
-
 -- by the set that is reported of a nonterminal: it overruns
 abbrev pub overruns_by : ℕ → Bool
 overruns_by set = not (is_empty set)
@@ -68,10 +63,15 @@ overruns_in sets A = overruns_by (get_or sets A 0)
 unfoldable pub within_limits : Sizes → Bool
 within_limits z = leb z.nonterminals max_nonterminals && (leb z.terminals max_terminals && leb z.rules max_rules)
 
--- what is put by what is found of a grammar, of its rules and of its nonterminals; nothing of sizes beyond the limits
-abbrev pub gaps_by : Finding → (heads sets overruns : List ℕ) → List ℕ
-gaps_by (Refused e) heads sets overruns = refusal_text e
-gaps_by (Passed z) heads sets overruns = choose (within_limits z) (lines_text z (claimant_at heads sets z.terminals) (overruns_in overruns)) []
+pub record WithinLimits (z : Sizes) : Type 0 where
+  pub nonterminals : z.nonterminals ≤ max_nonterminals
+  pub terminals : z.terminals ≤ max_terminals
+  pub rules : z.rules ≤ max_rules
 
-pub record GapsPutBy (f : Finding) (heads sets overruns before after : List ℕ) (n : ℕ) : Type 0 where
+-- what is put by what is found of a grammar, of its rules and of its nonterminals; nothing of sizes beyond the limits
+abbrev pub gaps_by : Result Sizes Error → (heads sets overruns : List ℕ) → List ℕ
+gaps_by (Err e) heads sets overruns = refusal_text e
+gaps_by (Ok z) heads sets overruns = choose (within_limits z) (lines_text z (claimant_at heads sets z.terminals) (overruns_in overruns)) []
+
+pub record GapsPutBy (f : Result Sizes Error) (heads sets overruns before after : List ℕ) (n : ℕ) : Type 0 where
   pub put : Put before 0 (gaps_by f heads sets overruns) after n

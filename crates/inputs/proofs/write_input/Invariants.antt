@@ -5,6 +5,3 @@ use Rattle.inputs.proofs.write_input.Given as goal
 
 abbrev pub invariant-loop-at : goal.invariant-loop-at
 invariant-loop-at l = Writing (l.last + 1) l.number l.initial.input l.input l.rest l.at
-
-abbrev pub decreases-loop-at : goal.decreases-loop-at
-decreases-loop-at l = l.at

@@ -1,7 +1,10 @@
--- The two numbers are put behind the verdict.
-use Rattle.text.proofs.Writing.{put_then}
+-- The two numbers are put behind the verdict, then the calls.
+use borrow.Author.Rules.{rules}
+use Rattle.text.proofs.Outputs.{puts_then}
 use Rattle.judgement_text.proofs.put_verdict.Goals as goal
 
 pub returns : goal.returns
 returns c =
-    put_then (put_then c.put_labelled-at.ensures c.put_labelled-at-2.ensures) c.put_bytes.ensures
+    let line = puts_then (puts_then c.put_labelled.ensures c.put_labelled-2.ensures) c.put_bytes.ensures in
+    let put = puts_then line c.put_calls.ensures in
+    search (rules, put)

@@ -7,6 +7,6 @@ use borrow.Author.Rules.{rules}
 use Rattle.kept_judge.proofs.judge_kept.Goals as goal
 
 pub returns : goal.returns
-returns c =
+returns g c =
     let whole : length c.args.kept.events ≡ max_tokens = search rules in
     judges_kept c.args.kept whole c.input_length-length.result c.input_length-length.ensures c.judge.ensures

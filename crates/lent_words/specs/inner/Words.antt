@@ -1,12 +1,11 @@
 -- The sizes of the table that is lent, by what is found, and an entry as a word.
-use Rattle.std.specs.Prelude.{ℕ, eqb, ltb}
+use Rattle.std.specs.Prelude.{Err, Ok, Result, ℕ, eqb, ltb}
+use Rattle.answer.specs.declared.Error.{Error}
 use Rattle.base.specs.Choice.{choose}
 use Rattle.grammar.specs.Codes.{no_entry}
 use Rattle.grammar.specs.inner.Codes.{no_rule}
 use Rattle.grammar.specs.Limits.{max_nonterminals, max_terminals}
 use Rattle.grammar.specs.declared.reading.Sizes.{Sizes}
-use Rattle.families.specs.declared.Finding.{Finding}
-use Rattle.families.specs.declared.Finding.TheVariants.{Passed, Refused}
 
 -- an entry as a word
 unfoldable pub entry_code : ℕ → ℕ
@@ -16,6 +15,6 @@ abbrev pub no_sizes : Sizes
 no_sizes = record { nonterminals = 0; terminals = 0; rules = 0 }
 
 -- the sizes of the table that is lent: none where the grammar is refused, or where they are past the limits, as those of no grammar that passes are
-unfoldable pub lent_sizes : Finding → Sizes
-lent_sizes (Refused e) = no_sizes
-lent_sizes (Passed z) = choose (ltb max_nonterminals z.nonterminals) no_sizes (choose (ltb max_terminals z.terminals) no_sizes z)
+unfoldable pub lent_sizes : Result Sizes Error → Sizes
+lent_sizes (Err e) = no_sizes
+lent_sizes (Ok z) = choose (ltb max_nonterminals z.nonterminals) no_sizes (choose (ltb max_terminals z.terminals) no_sizes z)

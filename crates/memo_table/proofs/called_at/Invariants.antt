@@ -1,12 +1,8 @@
 -- None of the nonterminals passed was called there.
 use mathlib.Core.Path.{◌≡◌}
 use mathlib.Core.Bool.{false}
-use Prim.Native.Nat.{◌-◌, ◌≤◌}
 use Rattle.memo_table.specs.inner.Tally.{called_at}
 use Rattle.memo_table.proofs.called_at.Given as goal
 
 abbrev pub invariant-loop-nonterminal : goal.invariant-loop-nonterminal
-invariant-loop-nonterminal l = (called_at l.memo l.nonterminal l.tokens l.place ≡ false) × (l.nonterminal ≤ l.nonterminals)
-
-abbrev pub decreases-loop-nonterminal : goal.decreases-loop-nonterminal
-decreases-loop-nonterminal l = l.nonterminals - l.nonterminal
+invariant-loop-nonterminal l = called_at l.memo l.nonterminal l.tokens l.place ≡ false

@@ -1,14 +1,16 @@
 -- The count is that of the entries passed.
+use Prim.Native.Nat.{◌+◌}
 use native.Mathlib.Omega.{arith}
-use lib.ListN.{get_or}
-use Rattle.memo_table.proofs.Tallying.{count_more, one_bound}
+use Rattle.memo_table.proofs.Tallying.{count_none, count_more, count_bound}
 use Rattle.memo_table.proofs.count_block.Goals as goal
 
-pub loop-at-preserved : goal.loop-at-preserved
-loop-at-preserved c =
-    let loop = c.loop-at in (
-      omega arith,
-      omega arith,
-      omega (arith, one_bound (get_or c.args.memo.now loop.at 0) c.calls_of-count.ensures),
-      omega (arith, count_more c.args.memo.now loop.at (omega (arith, c.requires.within)) c.calls_of-count.ensures),
-    )
+pub loop-entry-init : goal.loop-entry-init
+loop-entry-init c = count_none _
+
+pub overflow_add-count : goal.overflow_add-count
+overflow_add-count c =
+    let at = c.loop-entry.entry-index in
+    omega (arith, count_bound c.args.block.now (at + 1), count_more c.args.block.now at (omega arith) c.calls_of-count.ensures)
+
+pub loop-entry-preserved : goal.loop-entry-preserved
+loop-entry-preserved c = omega (arith, count_more c.args.block.now c.loop-entry.entry-index (omega arith) c.calls_of-count.ensures)

@@ -50,12 +50,6 @@ called_at m nonterminals tokens place = any_below nonterminals (λ A. written_am
 abbrev pub block_entries : ℕ
 block_entries = 65535
 
--- entries that one block holds
-pub record BlockGiven (m : Memo) (from to : ℕ) : Type 0 where
-  pub ordered : from ≤ to
-  pub short : to ≤ from + block_entries
-  pub within : to ≤ length m
-
 -- rows for the first nonterminals, and one of their places
 pub record RowsGiven (m : Memo) (nonterminals tokens place : ℕ) : Type 0 where
   pub room : nonterminals * (tokens + 1) ≤ length m

@@ -6,20 +6,16 @@ use Rattle.reader.proofs.read.Goals as goal
 
 pub returns-then-not-within : goal.returns-then-not-within
 returns-then-not-within c =
-    let words = c.args.words.now in
-    nonterminals_out words (omega arith) (λ e. omega arith) c.decode.ensures c.declared-sizes.ensures
-    (sym c.within.ensures ∙ c.if-not-within.true)
+    nonterminals_out _ (omega arith) c.in-Some.ensures.cases.0 c.decode.ensures c.declared-sizes.ensures (sym c.within.ensures ∙ c.if-not-within.true)
 
 pub returns-then-not-within-2 : goal.returns-then-not-within-2
 returns-then-not-within-2 c =
-    let words = c.args.words.now in
-    terminals_out words (omega arith) (λ e. omega arith) c.decode.ensures c.declared-sizes.ensures
+    terminals_out _ (omega arith) c.in-Some.ensures.cases.0 c.decode.ensures c.declared-sizes.ensures
     (sym c.within.ensures ∙ c.if-not-within.false)
     (sym c.within-2.ensures ∙ c.if-not-within-2.true)
 
 pub returns : goal.returns
 returns c =
-    let words = c.args.words.now in
-    c.read_rules.ensures ∙ reading_rules words (omega arith) (λ e. omega arith) c.decode.ensures c.declared-sizes.ensures
+    c.read_rules.ensures ∙ reading_rules _ (omega arith) c.in-Some.ensures.cases.0 c.decode.ensures c.declared-sizes.ensures
     (sym c.within.ensures ∙ c.if-not-within.false)
     (sym c.within-2.ensures ∙ c.if-not-within-2.false)

@@ -1,5 +1,5 @@
 -- What a descent in a lent memo table finds and leaves there; and what its steps require and ensure.
-use Rattle.std.specs.Prelude.{◌≡◌, List, ◌∷◌, ◌++◌, ℕ, ◌≤◌, ltb, length}
+use Rattle.std.specs.Prelude.{Err, Ok, Result, ◌≡◌, List, ◌∷◌, ◌++◌, ℕ, ◌≤◌, ltb, length}
 use Rattle.std.proofs.Math.Option.{Option, none, some}
 use Rattle.answer.specs.declared.Error.{Error}
 use Rattle.answer.specs.declared.Error.TheVariants.{MemoTooShort}
@@ -8,14 +8,11 @@ use Rattle.grammar.specs.Limits.{max_tokens, max_memo_entries}
 use Rattle.grammar.specs.Encoding.{grammar_of}
 use Rattle.grammar.specs.inner.Starts.{rule_starts}
 use Rattle.grammar.specs.declared.reading.Sizes.{Sizes}
-use Rattle.grammar.specs.declared.reading.Reading.TheVariants.{Read}
 use Rattle.lookahead.specs.declared.Lookahead.{Lookahead}
 use Rattle.admission.specs.Admission.{admission}
 use Rattle.semantics.specs.Valuations.{pairs}
 use Rattle.semantics.specs.LeftRecursion.{NoLeftRecursion}
 use Rattle.base.specs.Strings.{Over}
-use Rattle.families.specs.declared.Finding.{Finding}
-use Rattle.families.specs.declared.Finding.TheVariants.{Refused}
 use Rattle.table.specs.inner.Entries.{entries_of}
 use Rattle.table.specs.declared.Found.{Found}
 use Rattle.table_promises.specs.Analysis.{grammar_faults, fault}
@@ -30,13 +27,13 @@ memo_fault k memo words input =
     first_fault (fault_if (ltb memo max_memo_entries) MemoTooShort ∷ grammar_faults k words ++ input_faults (grammar_of words).terminals input)
 
 -- what is found of a grammar, but with this finding in place of its own
-abbrev pub refound : Found → Finding → Found
+abbrev pub refound : Found → Result Sizes Error → Found
 refound r f = found_with f r.starts r.firsts r.follows r.entries
 
 -- what is found of a grammar; where there is an error, with that in place of its finding
 abbrev pub found_unless : Option Error → Found → Found
 found_unless none r = r
-found_unless (some e) r = refound r (Refused e)
+found_unless (some e) r = refound r (Err e)
 
 -- the first refusal that holds decides what is found, and a refusal changes nothing; else the entries stand in front of what was there
 pub record DescendsWords (k : Lookahead) (words input memo : List ℕ) (r : Found) (memo' : List ℕ) : Type 0 where
@@ -45,14 +42,14 @@ pub record DescendsWords (k : Lookahead) (words input memo : List ℕ) (r : Foun
 
 -- what is found of a grammar that passes: its sizes, no fault, where its rules begin, and its entries
 pub record EntriesFound (k : Lookahead) (words : List ℕ) (z : Sizes) (starts entries : List ℕ) : Type 0 where
-  pub taken : admission k words ≡ Read z
+  pub taken : admission k words ≡ Ok z
   pub faultless : fault k words ≡ none
   pub begins : starts ≡ rule_starts words
   pub entered : entries ≡ entries_of k (grammar_of words)
 
 -- a grammar that passes, with its sizes, where its rules begin, and its entries; and an input of its terminals
 pub record Ready (k : Lookahead) (words : List ℕ) (z : Sizes) (starts entries input : List ℕ) : Type 0 where
-  pub taken : admission k words ≡ Read z
+  pub taken : admission k words ≡ Ok z
   pub free : NoLeftRecursion (grammar_of words)
   pub begins : starts ≡ rule_starts words
   pub entered : entries ≡ entries_of k (grammar_of words)

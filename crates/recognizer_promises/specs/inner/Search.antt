@@ -1,6 +1,6 @@
 -- What the search for the costliest input of a length, in a lent log and a lent memo table, finds and leaves there; and what its steps require and
 -- ensure.
-use Rattle.std.specs.Prelude.{◌≡◌, List, ◌∷◌, ◌++◌, ℕ, ◌^◌, ◌≤◌, ltb, length, drop}
+use Rattle.std.specs.Prelude.{Ok, ◌≡◌, List, ◌∷◌, ◌++◌, ℕ, ◌^◌, ◌≤◌, ltb, length, drop}
 use Rattle.std.proofs.Math.Option.{Option}
 use Rattle.answer.specs.declared.Error.{Error}
 use Rattle.answer.specs.declared.Error.TheVariants.{MemoTooShort, BufferTooShort}
@@ -9,7 +9,6 @@ use Rattle.grammar.specs.Limits.{max_tokens, max_memo_entries}
 use Rattle.grammar.specs.Encoding.{grammar_of}
 use Rattle.grammar.specs.inner.Starts.{rule_starts}
 use Rattle.grammar.specs.declared.reading.Sizes.{Sizes}
-use Rattle.grammar.specs.declared.reading.Reading.TheVariants.{Read}
 use Rattle.lookahead.specs.declared.Lookahead.TheVariants.{One}
 use Rattle.admission.specs.Admission.{admission}
 use Rattle.inputs.specs.Inputs.{max_inputs}
@@ -44,7 +43,7 @@ pub record SearchesWords (words : List ℕ) (k : ℕ) (log memo : List ℕ) (r :
 -- a grammar that passes, with its sizes, where its rules begin, and its entries; room for an input of which there are not too many; and a memo table that
 -- is long enough
 pub record SearchGiven (words : List ℕ) (z : Sizes) (starts entries events memo : List ℕ) : Type 0 where
-  pub taken : admission One words ≡ Read z
+  pub taken : admission One words ≡ Ok z
   pub free : NoLeftRecursion (grammar_of words)
   pub begins : starts ≡ rule_starts words
   pub entered : entries ≡ entries_of One (grammar_of words)

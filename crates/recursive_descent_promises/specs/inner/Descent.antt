@@ -1,6 +1,6 @@
 -- What calling a nonterminal and running a body require and ensure: they are the descent with a memo table, for every depth that is enough, by
 -- any choice of rules that two arrays hold.
-use Rattle.std.specs.Prelude.{◌≡◌, Bool, true, false, ℕ, suc, ◌+◌, ◌*◌, ◌/◌, ◌%◌, ◌≤◌, ◌<◌, length, get_or, drop}
+use Rattle.std.specs.Prelude.{Ok, ◌≡◌, Bool, true, false, ℕ, suc, ◌+◌, ◌*◌, ◌/◌, ◌%◌, ◌≤◌, ◌<◌, length, get_or, drop}
 use mathlib.Core.List.{List, Memᴰ}
 use Rattle.std.proofs.Math.Option.{Option, none, some}
 use Rattle.grammar.specs.Codes.{uncalled_code, failed_code}
@@ -12,7 +12,6 @@ use Rattle.grammar.specs.inner.Starts.{rule_starts}
 use Rattle.grammar.specs.declared.reading.Sizes.{Sizes}
 use Rattle.grammar.specs.declared.reading.State.{State}
 use Rattle.grammar.specs.declared.reading.Progress.{Progress}
-use Rattle.grammar.specs.declared.reading.Reading.TheVariants.{Read}
 use Rattle.semantics.specs.Valuations.{pairs}
 use Rattle.semantics.specs.LeftRecursion.{NoLeftRecursion}
 use Rattle.semantics.specs.Choices.{Choice}
@@ -47,7 +46,7 @@ pub record Skipped (words : List ℕ) (from at : ℕ) : Type 0 where
   pub within : at ≤ length words
   pub positives : (parse (drop at words)).positives ≡ (parse (drop from words)).positives
   pub negatives : (parse (drop at words)).negatives ≡ (parse (drop from words)).negatives
-  pub reads : (p : Progress) (z : Sizes) → scan p from (drop from words) ≡ Read z → scan p at (drop at words) ≡ Read z
+  pub reads : (p : Progress) (z : Sizes) → scan p from (drop from words) ≡ Ok z → scan p at (drop at words) ≡ Ok z
 
 -- each entry that is written holds the outcome of its call
 pub record MemoSound (choice : Choice) (words input memo : List ℕ) : Type 0 where
@@ -58,7 +57,7 @@ pub record MemoSound (choice : Choice) (words input memo : List ℕ) : Type 0 wh
 -- the arrays hold a choice of rules, each of its own nonterminal, and the tokens of the input
 pub record ArraysGiven (choice : Choice) (words choices tokens input memo : List ℕ) : Type 0 where
   pub sizes : Sizes
-  pub read : reading words ≡ Read sizes
+  pub read : reading words ≡ Ok sizes
   pub free : NoLeftRecursion (grammar_of words)
   pub own : OwnRules (grammar_of words) choice
   pub rows : (A : ℕ) → A < (grammar_of words).nonterminals → row_at choices A ≡ A * suc (length input)

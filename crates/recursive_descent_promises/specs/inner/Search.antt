@@ -1,9 +1,8 @@
 -- What the steps of the search for the costliest input require and ensure.
-use Rattle.std.specs.Prelude.{◌≡◌, List, ℕ, suc, ◌+◌, ◌*◌, ◌^◌, ◌≤◌, length}
+use Rattle.std.specs.Prelude.{Ok, ◌≡◌, List, ℕ, suc, ◌+◌, ◌*◌, ◌^◌, ◌≤◌, length}
 use Rattle.grammar.specs.Limits.{max_tokens}
 use Rattle.grammar.specs.Encoding.{grammar_of}
 use Rattle.grammar.specs.declared.reading.Sizes.{Sizes}
-use Rattle.grammar.specs.declared.reading.Reading.TheVariants.{Read}
 use Rattle.lookahead.specs.declared.Lookahead.TheVariants.{One}
 use Rattle.admission.specs.Admission.{admission}
 use Rattle.inputs.specs.Inputs.{max_inputs}
@@ -17,7 +16,7 @@ use Rattle.recursive_descent_promises.specs.inner.Judging.{table_rows}
 -- not too many such inputs
 pub record TrialGiven (words choices : List ℕ) (last : ℕ) (events memo : List ℕ) : Type 0 where
   pub sizes : Sizes
-  pub taken : admission One words ≡ Read sizes
+  pub taken : admission One words ≡ Ok sizes
   pub highest : last + 1 ≡ sizes.terminals
   pub free : NoLeftRecursion (grammar_of words)
   pub made : choices ≡ table_rows One words sizes (length events)

@@ -7,19 +7,19 @@ use Rattle.report_texts.proofs.Counts.{sheet_printed}
 use Rattle.report.proofs.sheet.Goals as goal
 
 pub slice_bounds-words-end : goal.slice_bounds-words-end
-slice_bounds-words-end c = (found c.load-loaded.ensures c.in-Words.is (length-replicate {A = ℕ} max_words 0)).few
+slice_bounds-words-end c = (found c.load-loaded.ensures c.in-Some.is (length-replicate {A = ℕ} max_words 0)).few
 
 pub slice_bounds-put_checked-end : goal.slice_bounds-put_checked-end
 slice_bounds-put_checked-end c =
-    (found c.load-loaded.ensures c.in-Words.is (length-replicate {A = ℕ} max_words 0)).part
+    (found c.load-loaded.ensures c.in-Some.is (length-replicate {A = ℕ} max_words 0)).part
 
-pub returns-in-Words : goal.returns-in-Words
-returns-in-Words c =
+pub returns-in-Some : goal.returns-in-Some
+returns-in-Some c =
     sheet_printed c.args.bytes.now
-    (sheet_checked (found c.load-loaded.ensures c.in-Words.is (length-replicate {A = ℕ} max_words 0))
+    (sheet_checked (found c.load-loaded.ensures c.in-Some.is (length-replicate {A = ℕ} max_words 0))
     c.put_checked.ensures)
 
-pub returns-in-NotWords : goal.returns-in-NotWords
-returns-in-NotWords c =
+pub returns-in-None : goal.returns-in-None
+returns-in-None c =
     sheet_printed c.args.bytes.now
-    (sheet_refused c.args.bytes.now (not_found c.load-loaded.ensures c.in-NotWords.is) c.put_refusal.ensures)
+    (sheet_refused c.args.bytes.now (not_found c.load-loaded.ensures c.in-None.is) c.put_refusal.ensures)

@@ -1,18 +1,15 @@
--- The loop keeps the rest with the words from `at` on in front.
-use native.Mathlib.Omega.{arith}
+-- The words that are left, gone through from their end, give what all words do.
+use mathlib.Core.Path.{ap}
 use Rattle.families.specs.inner.First.{inside_word}
 use Rattle.families.specs.inner.Least.{lookup}
-use Rattle.families.proofs.Words.{end_none, end_one}
+use Rattle.families.proofs.Words.{end_turn, end_done}
 use Rattle.rests.proofs.rule_first.Goals as goal
 
-pub loop-at-init : goal.loop-at-init
-loop-at-init c =
-    (omega arith, end_none (inside_word c.args.lookahead (lookup c.args.firsts.now)) _ c.args.words.now c.no_rest-rest.ensures)
+pub loop-bits-preserved : goal.loop-bits-preserved
+loop-bits-preserved c =
+    end_turn (inside_word c.args.lookahead (lookup c.args.firsts.now)) _ _ _ c.in-Some.ensures.steps c.decode.ensures c.inside-rest.ensures
+    c.loop-bits.invariant
 
-pub loop-at-preserved : goal.loop-at-preserved
-loop-at-preserved c = (
-  omega (arith, c.loop-at-test.true, c.loop-at.invariant.0),
-  end_one (inside_word c.args.lookahead (lookup c.args.firsts.now)) _ c.args.words.now
-      c.loop-at.invariant.1 c.loop-at-test.true
-      c.loop-at.invariant.0 c.decode-word.ensures c.inside-rest.ensures,
-)
+pub returns : goal.returns
+returns c =
+    ap (λ r. r.meet.bits) (end_done (inside_word c.args.lookahead (lookup c.args.firsts.now)) _ c.in-None.ensures.steps.0 c.loop-bits.invariant)

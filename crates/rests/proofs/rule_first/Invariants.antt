@@ -1,15 +1,13 @@
--- The loop keeps the rest with the words from `at` on in front.
-use mathlib.Core.Path.{◌≡◌}
-use Prim.Native.Nat.{◌≤◌}
-use lib.ListN.{length, drop}
+-- The words that are left, gone through from their end, give what all words do.
+use Rattle.std.specs.Prelude.{◌≡◌}
+use Rattle.std.specs.Iterator.Adapters.{rev_source}
+use Rattle.std.specs.Slice.Iter.{iter_rest}
 use Rattle.families.specs.inner.First.{no_rest, inside_word}
 use Rattle.families.specs.inner.Least.{lookup}
 use Rattle.families.specs.inner.Rules.{fold_from_end}
 use Rattle.rests.proofs.rule_first.Given as goal
 
-abbrev pub invariant-loop-at : goal.invariant-loop-at
-invariant-loop-at l =
-    (l.at ≤ length l.words) × (l.rest ≡ fold_from_end (inside_word l.lookahead (lookup l.firsts)) (no_rest l.lookahead l.terminals) (drop l.at l.words))
-
-abbrev pub decreases-loop-at : goal.decreases-loop-at
-decreases-loop-at l = l.at
+abbrev pub invariant-loop-bits : goal.invariant-loop-bits
+invariant-loop-bits l =
+    let f = inside_word l.lookahead (lookup l.firsts) in
+    fold_from_end f l.rest (iter_rest (rev_source l.bits-iterator)) ≡ fold_from_end f (no_rest l.lookahead l.terminals) l.words

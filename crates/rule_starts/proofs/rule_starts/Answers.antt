@@ -6,11 +6,7 @@ pub loop-at-init : goal.loop-at-init
 loop-at-init c = noting_start c.args.words.now
 
 pub loop-at-preserved : goal.loop-at-preserved
-loop-at-preserved c =
-    let at-decode = c in
-    let at-loop-test = at-decode in
-    let at-loop = at-loop-test in
-    noting_turn at-loop.loop-at.invariant at-loop-test.loop-at-test.true _ at-decode.decode-word.ensures c.note-rules.ensures
+loop-at-preserved c = noting_turn c.loop-at.invariant c.loop-at-test.true _ c.decode.ensures c.note-rules.ensures
 
 pub returns : goal.returns
 returns c = noting_end c.loop-at.invariant c.loop-at-test.false

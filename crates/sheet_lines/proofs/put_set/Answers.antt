@@ -1,9 +1,9 @@
 -- The number of elements is put behind the set.
-use Rattle.text.proofs.Writing.{put_then}
-use Rattle.sheet_lines.proofs.Lines.{set_put}
+use mathlib.Core.Path.{◌≡◌}
+use borrow.Author.Rules.{rules}
+use Rattle.lookahead.specs.Elements.{size}
+use Rattle.text.proofs.Outputs.{puts_then}
 use Rattle.sheet_lines.proofs.put_set.Goals as goal
 
 pub returns : goal.returns
-returns c =
-    set_put c.args.label.now c.args.bits c.size.ensures
-    (put_then c.put_labelled-at.ensures c.put_labelled.ensures)
+returns c = let e : c.size.result ≡ size c.args.bits = search rules in rw (← e) (puts_then c.put_labelled.ensures c.put_labelled-2.ensures)

@@ -1,11 +1,10 @@
 -- The sizes that a sheet is printed of: none for sizes past the limits, as those of no grammar that passes are.
-use Rattle.std.specs.Prelude.{◌≤◌, ltb}
+use Rattle.std.specs.Prelude.{Err, Ok, Result, ◌≤◌, ltb}
+use Rattle.answer.specs.declared.Error.{Error}
 use Rattle.base.specs.Choice.{choose}
 use Rattle.grammar.specs.Encoding.{sizes}
 use Rattle.grammar.specs.Limits.{max_nonterminals, max_terminals}
 use Rattle.grammar.specs.declared.reading.Sizes.{Sizes}
-use Rattle.families.specs.declared.Finding.{Finding}
-use Rattle.families.specs.declared.Finding.TheVariants.{Passed, Refused}
 
 -- sizes within the limits
 pub record Limited (z : Sizes) : Type 0 where
@@ -15,6 +14,6 @@ pub record Limited (z : Sizes) : Type 0 where
 unfoldable pub limited_sizes : Sizes → Sizes
 limited_sizes z = choose (ltb max_nonterminals z.nonterminals) (sizes 0 0 0) (choose (ltb max_terminals z.terminals) (sizes 0 0 0) z)
 
-abbrev pub limited_finding : Finding → Finding
-limited_finding (Refused e) = Refused e
-limited_finding (Passed z) = Passed (limited_sizes z)
+abbrev pub limited_finding : Result Sizes Error → Result Sizes Error
+limited_finding (Err e) = Err e
+limited_finding (Ok z) = Ok (limited_sizes z)

@@ -1,11 +1,7 @@
 -- The loop keeps the word of the nonterminals gone through.
 use mathlib.Core.Path.{◌≡◌}
-use Prim.Native.Nat.{◌-◌, ◌≤◌}
 use Rattle.tabular_promises.specs.inner.Chart.{found_word}
 use Rattle.span_words.proofs.word_at.Given as goal
 
 abbrev pub invariant-loop-at : goal.invariant-loop-at
-invariant-loop-at l = (l.at ≤ l.nonterminals) × (l.word ≡ found_word l.chart l.at l.start l.end)
-
-abbrev pub decreases-loop-at : goal.decreases-loop-at
-decreases-loop-at l = l.nonterminals - l.at
+invariant-loop-at l = l.word.bits ≡ found_word l.chart l.at l.start l.end

@@ -8,20 +8,20 @@ returns-in_default c = found_refused _ _ c.analyze-finding.ensures c.in_default.
 
 pub first_conflict-conflict-requires : goal.first_conflict-conflict-requires
 first_conflict-conflict-requires c =
-    let found = claims_told _ _ c.analyze-finding.ensures c.in-Passed.is in
+    let found = claims_told _ _ c.analyze-finding.ensures c.in-Ok.is in
     (headed found, sizes_few found, overruns_long found)
 
 pub rows-requires : goal.rows-requires
 rows-requires c =
-    let found = claims_told _ _ c.analyze-finding.ensures c.in-Passed.is in
+    let found = claims_told _ _ c.analyze-finding.ensures c.in-Ok.is in
     record { headed = headed found; few_terminals = sizes_few found }
 
 pub returns-in_default-conflict : goal.returns-in_default-conflict
 returns-in_default-conflict c =
-    let found = claims_told _ _ c.analyze-finding.ensures c.in-Passed.is in
+    let found = claims_told _ _ c.analyze-finding.ensures c.in-Ok.is in
     found_passed found c.first_conflict-conflict.ensures c.in_default-conflict.is c.rows.ensures
 
 pub returns : goal.returns
 returns c =
-    let found = claims_told _ _ c.analyze-finding.ensures c.in-Passed.is in
-    found_clash found c.first_conflict-conflict.ensures c.in-At.is c.conflict_error.ensures
+    let found = claims_told _ _ c.analyze-finding.ensures c.in-Ok.is in
+    found_clash found c.first_conflict-conflict.ensures c.in-Some.is c.conflict_error.ensures

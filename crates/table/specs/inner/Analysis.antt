@@ -1,5 +1,6 @@
 -- All that is found of an encoded grammar: its finding, where its rules begin, its sets and its entries.
-use Rattle.std.specs.Prelude.{List, ℕ}
+use Rattle.std.specs.Prelude.{Result, List, ℕ}
+use Rattle.grammar.specs.declared.reading.Sizes.{Sizes}
 use Rattle.std.proofs.Math.Option.{Option, none, some}
 use Rattle.answer.specs.declared.Error.{Error}
 use Rattle.grammar.specs.Limits.{max_nonterminals}
@@ -7,7 +8,6 @@ use Rattle.grammar.specs.Encoding.{grammar_of}
 use Rattle.grammar.specs.inner.Starts.{rule_starts}
 use Rattle.lookahead.specs.declared.Lookahead.{Lookahead}
 use Rattle.admission.specs.Admission.{admission}
-use Rattle.families.specs.declared.Finding.{Finding}
 use Rattle.families.specs.Analysis.{sets_fault, finding_of}
 use Rattle.families.specs.inner.Analysis.{starts_if, sets_if}
 use Rattle.base.specs.Lists.{listed}
@@ -20,7 +20,7 @@ abbrev pub entries_if : Option Error → List ℕ → List ℕ
 entries_if none l = l
 entries_if (some e) l = no_rules
 
-abbrev pub found_with : Finding → List ℕ → List ℕ → List ℕ → List ℕ → Found
+abbrev pub found_with : Result Sizes Error → List ℕ → List ℕ → List ℕ → List ℕ → Found
 found_with f starts firsts follows entries = record { finding = f; starts = starts; firsts = firsts; follows = follows; entries = entries }
 
 unfoldable pub found_of : Lookahead → List ℕ → Found

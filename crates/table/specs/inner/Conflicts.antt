@@ -1,11 +1,10 @@
 -- The first clash as the code finds it: by sets of what is claimed once and twice.
-use Rattle.std.specs.Prelude.{◌≡◌, Bool, ◌||◌, List, ℕ, get_or}
+use Rattle.std.specs.Prelude.{Option, ◌≡◌, Bool, ◌||◌, List, ℕ, get_or}
 use Rattle.grammar.specs.declared.reading.Sizes.{Sizes}
 use Rattle.lookahead.specs.declared.Lookahead.{Lookahead}
 use Rattle.lookahead.specs.Elements.{has}
 use Rattle.base.specs.FiniteSets.{numbers_below}
 use Rattle.semantics.specs.Claims.{several}
-use Rattle.table_promises.specs.declared.Conflict.{Conflict}
 use Rattle.columns.specs.Columns.{column_count}
 use Rattle.columns.specs.inner.Columns.{column_element}
 use Rattle.claims.specs.inner.Claims.{claimant}
@@ -22,7 +21,7 @@ in_sets element sets A = in_set element (get_or sets A 0)
 abbrev pub claimed_twice : (ℕ → ℕ) → List ℕ → List ℕ → List ℕ → ℕ → ℕ → ℕ → Bool
 claimed_twice element heads sets told rules A c = several (claimant heads sets A (element c)) (numbers_below rules) || in_sets element told A c
 
-abbrev pub conflict_of : Lookahead → Sizes → List ℕ → List ℕ → List ℕ → Conflict
+abbrev pub conflict_of : Lookahead → Sizes → List ℕ → List ℕ → List ℕ → Option (ℕ × ℕ)
 conflict_of k z heads sets told =
     conflict_from (claimed_twice (column_element k z.terminals) heads sets told z.rules) (column_count k z.terminals) 0 z.nonterminals
 

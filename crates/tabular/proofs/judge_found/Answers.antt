@@ -4,12 +4,12 @@ use Rattle.tabular.proofs.judge_found.Goals as goal
 
 pub tabulate-requires : goal.tabulate-requires
 tabulate-requires c =
-    tabulate_given c.requires c.in-Passed.is
+    tabulate_given c.requires c.in-Ok.is
 
-pub returns-in-Refused : goal.returns-in-Refused
-returns-in-Refused c =
-    judge_found_refused c.requires c.in-Refused.is
+pub returns-in-Err : goal.returns-in-Err
+returns-in-Err c =
+    judge_found_refused c.requires c.in-Err.is
 
-pub returns-in-Passed : goal.returns-in-Passed
-returns-in-Passed c =
-    judge_done c.requires c.in-Passed.is c.tabulate.ensures
+pub returns-in-Ok : goal.returns-in-Ok
+returns-in-Ok c =
+    judge_done c.requires c.in-Ok.is c.tabulate.ensures

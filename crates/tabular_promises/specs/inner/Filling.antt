@@ -1,11 +1,10 @@
 -- The chart filled from short spans to long ones, spans of one length by their start, and nonterminals at one span by their rank.
-use Rattle.std.specs.Prelude.{◌≡◌, ◌&&◌, ◌||◌, List, ℕ, zero, suc, ◌+◌, ◌*◌, ◌-◌, ◌%◌, ◌≤◌, ◌<◌, T, eqb, length, get_or, set, replicate}
+use Rattle.std.specs.Prelude.{Ok, ◌≡◌, ◌&&◌, ◌||◌, List, ℕ, zero, suc, ◌+◌, ◌*◌, ◌-◌, ◌%◌, ◌≤◌, ◌<◌, T, eqb, length, get_or, set, replicate}
 use Rattle.std.specs.Int.Count.{ones}
 use Rattle.grammar.specs.Limits.{max_nonterminals, max_rules, max_tabular_tokens, max_tabular_places}
 use Rattle.grammar.specs.Syntax.{Grammar, Rule}
 use Rattle.grammar.specs.Encoding.{grammar_of}
 use Rattle.grammar.specs.declared.reading.Sizes.{Sizes}
-use Rattle.grammar.specs.declared.reading.Reading.TheVariants.{Read}
 use Rattle.grammar.specs.Reading.{reading}
 use Rattle.grammar.specs.inner.Starts.{rule_starts}
 use Rattle.lookahead.specs.Elements.{has}
@@ -20,7 +19,7 @@ use Rattle.tabular_promises.specs.inner.Scanning.{Scannable, head_at}
 
 -- a grammar that has been read, and where its rules begin
 pub record RulesGiven (words starts : List ℕ) (z : Sizes) : Type 0 where
-  pub read : reading words ≡ Read z
+  pub read : reading words ≡ Ok z
   pub begins : starts ≡ rule_starts words
 
 -- a rule, by its number, and the rank of its nonterminal

@@ -1,12 +1,12 @@
 -- What the parts of judging by tabulation are given, and what they leave.
-use Rattle.std.specs.Prelude.{◌≡◌, List, ℕ, ◌≤◌, length}
+use Rattle.std.specs.Prelude.{Result, ◌≡◌, List, ℕ, ◌≤◌, length}
+use Rattle.answer.specs.declared.Error.{Error}
 use Rattle.answer.specs.declared.Answer.{Answer}
 use Rattle.answer.specs.declared.Error.TheVariants.{SpansTooShort}
 use Rattle.grammar.specs.Limits.{max_tabular_tokens, max_span_words}
 use Rattle.grammar.specs.Encoding.{grammar_of}
 use Rattle.grammar.specs.declared.reading.Sizes.{Sizes}
 use Rattle.lookahead.specs.declared.Lookahead.TheVariants.{One}
-use Rattle.families.specs.declared.Finding.{Finding}
 use Rattle.families.specs.declared.Families.{Families}
 use Rattle.families.specs.inner.Analysis.{families_of}
 use Rattle.promises.specs.inner.Inputs.{with_input_to, with_room}
@@ -25,7 +25,7 @@ pub record Tabulated (words w before : List ℕ) (r : Answer) (after : List ℕ)
   pub memory : Spans (length w) (solution_word (grammar_of words) w) before after
 
 -- what is found of the lent words, of a grammar and then of an input
-pub record FoundGiven (words : List ℕ) (f : Finding) (starts reaches input spans : List ℕ) : Type 0 where
+pub record FoundGiven (words : List ℕ) (f : Result Sizes Error) (starts reaches input spans : List ℕ) : Type 0 where
   pub families : Families
   pub found : families ≡ families_of One words
   pub finding : f ≡ with_room (length spans) max_span_words SpansTooShort (with_input_to max_tabular_tokens families.finding input)

@@ -9,22 +9,18 @@ use Rattle.terminal_places.proofs.standing.Goals as goal
 use Rattle.terminal_places.proofs.standing.Goals.{then-terminal-lt-STANDS, else-terminal-lt-STANDS}
 
 pub loop-at-init : goal.loop-at-init
-loop-at-init c = (omega arith, stands_start _)
+loop-at-init c = stands_start _
 
 pub loop-at-preserved : goal.loop-at-preserved
 loop-at-preserved c =
     let events = c.args.events.now in
-    let before = c.loop-at.invariant.1 in
-    let token = c.terminal_of-terminal.ensures in (
-      omega (arith, c.loop-at-test.true),
-      elim c.if-terminal-lt-STANDS.branch [
-        | then-terminal-lt-STANDS w ↦ w.stands-is ∙ stands_more events c.loop-at.at before token w.put.ensures
-        | else-terminal-lt-STANDS w ↦ w.stands-is ∙ stands_nowhere events c.loop-at.at before token w.if-terminal-lt-STANDS.false
-      ],
-    )
+    let at = c.loop-at.at in
+    let before = c.loop-at.invariant in
+    let token = c.from-terminal.ensures ∙ c.terminal_of.ensures in
+    elim c.if-terminal-lt-STANDS.branch [
+      | then-terminal-lt-STANDS w ↦ w.stands-is ∙ stands_more events at before token w.put.ensures
+      | else-terminal-lt-STANDS w ↦ w.stands-is ∙ stands_nowhere events at before token w.if-terminal-lt-STANDS.false
+    ]
 
 pub returns : goal.returns
-returns c =
-    let events = c.args.events.now in
-    c.loop-at.invariant.1
-    ∙ ap (stands_to (input_of events)) (omega (arith, c.loop-at.invariant.0, c.loop-at-test.false, input_length events))
+returns c = c.loop-at.invariant ∙ ap (stands_to (input_of c.args.events.now)) (omega (arith, input_length c.args.events.now))

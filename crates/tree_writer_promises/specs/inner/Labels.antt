@@ -1,11 +1,10 @@
 -- The words of the vertices as they are made before the tree is written: one for each call, of what judging left in the lent memories.
-use Rattle.std.specs.Prelude.{◌≡◌, List, ℕ, ◌+◌, ◌*◌, ◌/◌, ◌%◌, ◌≤◌, ◌<◌, ltb, length, get_or, replicate}
+use Rattle.std.specs.Prelude.{Err, Ok, Result, ◌≡◌, List, ℕ, ◌+◌, ◌*◌, ◌/◌, ◌%◌, ◌≤◌, ◌<◌, ltb, length, get_or, replicate}
+use Rattle.answer.specs.declared.Error.{Error}
 use Rattle.base.specs.Choice.{choose}
 use Rattle.base.specs.Lists.{listed}
 use Rattle.grammar.specs.Limits.{max_nonterminals, max_tokens, max_places, max_memo_entries}
 use Rattle.grammar.specs.declared.reading.Sizes.{Sizes}
-use Rattle.grammar.specs.declared.reading.Reading.{Reading}
-use Rattle.grammar.specs.declared.reading.Reading.TheVariants.{Read, Faulty}
 use Rattle.semantics.specs.ComesTo.{Call}
 use Rattle.lookahead.specs.declared.Lookahead.TheVariants.{One}
 use Rattle.columns.specs.inner.Columns.{column_at}
@@ -53,9 +52,9 @@ label_at z input table memo at =
 unfoldable pub labels_of : Sizes → (input table memo : List ℕ) → List ℕ
 labels_of z input table memo = listed max_memo_entries (label_at z input table memo)
 
-abbrev pub labels_read : Reading → (input table memo : List ℕ) → List ℕ
-labels_read (Read z) input table memo = labels_of z input table memo
-labels_read (Faulty e) input table memo = replicate max_memo_entries 0
+abbrev pub labels_read : Result Sizes Error → (input table memo : List ℕ) → List ℕ
+labels_read (Ok z) input table memo = labels_of z input table memo
+labels_read (Err e) input table memo = replicate max_memo_entries 0
 
 -- the words below an index are made, and behind them are zeros
 pub record LabelledBelow (z : Sizes) (input table memo : List ℕ) (bound : ℕ) (labels : List ℕ) : Type 0 where

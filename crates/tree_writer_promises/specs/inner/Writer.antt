@@ -1,5 +1,5 @@
 -- What writing the tree requires and ensures: the words are those of the visit, for every depth that is enough.
-use Rattle.std.specs.Prelude.{◌≡◌, ℕ, ◌+◌, ◌*◌, ◌-◌, ◌/◌, ◌%◌, ◌≤◌, ◌<◌, T, length, get_or, drop}
+use Rattle.std.specs.Prelude.{Ok, ◌≡◌, ℕ, ◌+◌, ◌*◌, ◌-◌, ◌/◌, ◌%◌, ◌≤◌, ◌<◌, T, length, get_or, drop}
 use mathlib.Core.List.{List, ◌++◌, map, Memᴰ}
 use Rattle.grammar.specs.Limits.{max_tokens, max_places, max_memo_entries, max_table_words}
 use Rattle.grammar.specs.Syntax.{Grammar}
@@ -7,7 +7,6 @@ use Rattle.grammar.specs.Encoding.{grammar_of}
 use Rattle.grammar.specs.Reading.{reading}
 use Rattle.grammar.specs.inner.Starts.{rule_starts}
 use Rattle.grammar.specs.declared.reading.Sizes.{Sizes}
-use Rattle.grammar.specs.declared.reading.Reading.TheVariants.{Read}
 use Rattle.base.specs.Choice.{choose}
 use Rattle.base.specs.FiniteSets.{member, Distinct}
 use Rattle.semantics.specs.LeftRecursion.{level}
@@ -48,7 +47,7 @@ pub record Holds (words input lent : List ℕ) (l : List Call) (labels tree : Li
 -- an input that a grammar accepts
 pub record Accepted (words input : List ℕ) : Type 0 where
   pub sizes : Sizes
-  pub read : reading words ≡ Read sizes
+  pub read : reading words ≡ Ok sizes
   pub predictive : Predictive (grammar_of words) 1
   pub tokens : Over (grammar_of words).terminals input
   pub short : length input ≤ max_tokens

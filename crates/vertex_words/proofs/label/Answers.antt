@@ -1,4 +1,5 @@
 -- The numbers stay small, and the word is that of what the lent memories hold.
+use borrow.Author.Rules.{rules}
 use Rattle.tree_writer_promises.proofs.Labelling.{label_long, label_short}
 use Rattle.vertex_words.proofs.label.Goals as goal
 
@@ -11,4 +12,4 @@ pub returns : goal.returns
 returns c =
     let a = c.args in
     label_short a.sizes a.events.now a.table.now a.memo.now a.nonterminal a.place c.if-events-gt-TOKENS.false
-    c.column_at-column.ensures c.word_at-rule.ensures c.entry_at-end.ensures c.vertex_word.ensures
+    c.column_at-column.ensures (search rules) (search rules) c.vertex_word.ensures

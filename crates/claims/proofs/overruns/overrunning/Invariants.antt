@@ -1,10 +1,6 @@
 -- The loop keeps `Telling`: what the rules from the index on tell is reported.
-use Prim.Native.Nat.{◌≤◌}
 use Rattle.claims.proofs.OverrunRules.{Telling}
 use Rattle.claims.proofs.overruns.overrunning.Given as goal
 
 abbrev pub invariant-loop-rule : goal.invariant-loop-rule
-invariant-loop-rule l = (l.rule ≤ l.initial.rule) × Telling l.lookahead l.words l.follows l.overruns l.rule
-
-abbrev pub decreases-loop-rule : goal.decreases-loop-rule
-decreases-loop-rule l = l.rule
+invariant-loop-rule l = Telling l.lookahead l.words l.follows l.overruns l.rule

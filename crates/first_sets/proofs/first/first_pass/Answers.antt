@@ -1,26 +1,9 @@
 -- The loop keeps `Turns`: the rules before have had their turn; and `Meeting`: what they give is kept, while no set has grown.
 use mathlib.Core.Path.{refl}
-use native.Mathlib.Omega.{arith}
-use Rattle.grammar.proofs.WellRead.{well_read}
 use Rattle.families.proofs.HeadPasses.{its_turn, its_words, visit, visits_end}
 use Rattle.families.proofs.FirstPasses.{rule_gives, rule_larger, rule_given}
 use Rattle.families.proofs.FirstMeets.{meeting_next, meeting_end}
 use Rattle.first_sets.proofs.first.first_pass.Goals as goal
-
-pub bounds-starts-rule : goal.bounds-starts-rule
-bounds-starts-rule c =
-    omega (arith, its_turn c.requires.0 c.args.forward c.loop-passed-test.true c.turn-rule.ensures, (well_read _ _ c.requires.0.read).few_rules)
-
-pub slice_bounds-rule_first-end : goal.slice_bounds-rule_first-end
-slice_bounds-rule_first-end c =
-    let rule = its_words c.requires.0 c.args.forward c.loop-passed-test.true c.turn-rule.ensures refl in
-    let positives = c.requires.1 _ (its_turn c.requires.0 c.args.forward c.loop-passed-test.true c.turn-rule.ensures) in
-    omega (arith, positives.low, positives.high, rule.some, rule.within)
-
-pub bounds-words-start : goal.bounds-words-start
-bounds-words-start c =
-    let rule = its_words c.requires.0 c.args.forward c.loop-passed-test.true c.turn-rule.ensures refl in
-    omega (arith, rule.some, rule.within)
 
 pub loop-passed-preserved : goal.loop-passed-preserved
 loop-passed-preserved c =
@@ -29,11 +12,11 @@ loop-passed-preserved c =
     let turns = c.loop-passed.invariant.0 in
     let rule = its_words given forward c.loop-passed-test.true c.turn-rule.ensures refl in
     let positives = c.requires.1 _ (its_turn given forward c.loop-passed-test.true c.turn-rule.ensures) in
-    let meet = rule_given rule positives _ _ _ c.rule_first-meet.ensures in (
+    let meet = rule_given rule positives _ _ _ (rw c.from-end.ensures at c.rule_first-meet.ensures) in (
       visit given (rule_gives _ _) (rule_larger _ _) forward _ turns c.loop-passed-test.true c.turn-rule.ensures meet
           c.decode.ensures c.head_of-head.ensures
-          c.add.ensures c.either-grown.ensures,
-      meeting_next given forward _ _ c.loop-passed.invariant.1 turns.same c.loop-passed-test.true c.turn-rule.ensures meet refl c.either-grown.ensures,
+          c.add-grown.ensures refl,
+      meeting_next given forward _ _ c.loop-passed.invariant.1 turns.same c.loop-passed-test.true c.turn-rule.ensures meet refl refl,
     )
 
 pub returns : goal.returns

@@ -1,4 +1,5 @@
 -- Of the inputs tried so far the costliest is kept; it is tried last.
+use native.Mathlib.Omega.{arith}
 use Rattle.recursive_descent_promises.proofs.Searching.{searching_start, searching_next, searching_less, searching_done}
 use Rattle.recursive_descent.proofs.search.leave_costliest.Goals as goal
 
@@ -11,8 +12,7 @@ loop-trials-smaller c =
 
 pub loop-trials-preserved : goal.loop-trials-preserved
 loop-trials-preserved c =
-    searching_next c.requires c.loop-trials.invariant c.loop-trials-test.true c.try_input-calls.ensures
-    c.events-1.given c.memo-1.given c.tried-trials.ensures
+    searching_next c.requires c.loop-trials.invariant c.loop-trials-test.true c.try_input-calls.ensures (omega arith) (omega arith) c.tried-trials.ensures
 
 pub returns : goal.returns
 returns c =

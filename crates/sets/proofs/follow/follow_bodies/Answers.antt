@@ -8,12 +8,12 @@ loop-at-init c =
     follow_start c.requires.1 c.args.lookahead _ _ _ (behind_body c.args.lookahead c.end.ensures c.concat-behind.ensures)
     c.requires.0
 
-pub add_behind-requires : goal.add_behind-requires
-add_behind-requires c =
+pub add_behind-grown-requires : goal.add_behind-grown-requires
+add_behind-grown-requires c =
     word_here c.requires.1 _ c.loop-at.invariant c.loop-at-test.true c.decode-word.ensures
 
 pub loop-at-preserved : goal.loop-at-preserved
 loop-at-preserved c =
     follow_turn c.requires.1 _ c.loop-at.invariant c.loop-at-test.true c.decode-word.ensures _ c.requires.2
-    c.add_behind.ensures c.either-grown.ensures (behind_body c.args.lookahead c.end.ensures c.concat-behind.ensures)
+    c.add_behind-grown.ensures refl (behind_body c.args.lookahead c.end.ensures c.concat-behind.ensures)
     c.args.firsts.now refl c.tail_before-tail.ensures

@@ -6,6 +6,3 @@ use Rattle.sets.proofs.follow.follow_bodies.Given as goal
 abbrev pub invariant-loop-at : goal.invariant-loop-at
 invariant-loop-at l =
     FollowWalk l.lookahead (family l.firsts) l.follow l.words l.initial.follows l.follows l.from l.to l.grown l.tail.bits l.at
-
-abbrev pub decreases-loop-at : goal.decreases-loop-at
-decreases-loop-at l = l.at

@@ -17,7 +17,6 @@ pub returns : goal.returns
 returns c =
     let given = c.requires in
     let rules = c.follow_rules.ensures in (
-      rw c.either.ensures
-          (follow_passes _ _ _ (omega (arith, given.0.long)) (rw c.end.ensures.is at c.add-began.ensures) rules.0),
+      follow_passes _ _ _ (omega (arith, given.0.long)) (rw c.end.ensures.is at c.add-began.ensures) rules.0,
       rules.1,
     )

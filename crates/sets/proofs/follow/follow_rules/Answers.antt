@@ -2,33 +2,9 @@
 use mathlib.Core.Path.{refl, ◌∙◌}
 use native.Mathlib.Omega.{arith}
 use Rattle.grammar.proofs.WellRead.{well_read}
-use Rattle.families.proofs.HeadPasses.{its_turn, its_start, its_words, head_below}
+use Rattle.families.proofs.HeadPasses.{its_turn, its_words, head_below}
 use Rattle.families.proofs.FollowPasses.{follow_visit, follows_end, last_asked, last_next}
 use Rattle.sets.proofs.follow.follow_rules.Goals as goal
-
-pub offset_bounds-starts-rule : goal.offset_bounds-starts-rule
-offset_bounds-starts-rule c =
-    omega (arith, its_turn c.requires.0 c.args.forward c.loop-passed-test.true c.turn-rule.ensures, (well_read _ _ c.requires.0.read).few_rules)
-
-pub bounds-starts-rule : goal.bounds-starts-rule
-bounds-starts-rule c =
-    omega (arith, its_turn c.requires.0 c.args.forward c.loop-passed-test.true c.turn-rule.ensures, (well_read _ _ c.requires.0.read).few_rules)
-
-pub offset_bounds-words-start : goal.offset_bounds-words-start
-offset_bounds-words-start c =
-    omega (arith, its_start c.requires.0 c.args.forward c.loop-passed-test.true c.turn-rule.ensures)
-
-pub bounds-words-start : goal.bounds-words-start
-bounds-words-start c =
-    omega (arith, its_start c.requires.0 c.args.forward c.loop-passed-test.true c.turn-rule.ensures)
-
-pub offset_bounds-last-rule : goal.offset_bounds-last-rule
-offset_bounds-last-rule c =
-    omega (arith, its_turn c.requires.0 c.args.forward c.loop-passed-test.true c.turn-rule.ensures, (well_read _ _ c.requires.0.read).few_rules)
-
-pub bounds-last-rule : goal.bounds-last-rule
-bounds-last-rule c =
-    omega (arith, its_turn c.requires.0 c.args.forward c.loop-passed-test.true c.turn-rule.ensures, (well_read _ _ c.requires.0.read).few_rules)
 
 pub bounds-follows-head : goal.bounds-follows-head
 bounds-follows-head c =
@@ -38,16 +14,8 @@ bounds-follows-head c =
           c.decode.ensures c.head_of-head.ensures,
     )
 
-pub offset_bounds-last-rule-in-loop-passed : goal.offset_bounds-last-rule-in-loop-passed
-offset_bounds-last-rule-in-loop-passed c =
-    omega (arith, its_turn c.requires.0 c.args.forward c.loop-passed-test.true c.turn-rule.ensures, (well_read _ _ c.requires.0.read).few_rules)
-
-pub bounds-last-rule-in-loop-passed : goal.bounds-last-rule-in-loop-passed
-bounds-last-rule-in-loop-passed c =
-    omega (arith, its_turn c.requires.0 c.args.forward c.loop-passed-test.true c.turn-rule.ensures, (well_read _ _ c.requires.0.read).few_rules)
-
-pub follow_rule-requires : goal.follow_rule-requires
-follow_rule-requires c =
+pub follow_rule-grown-requires : goal.follow_rule-grown-requires
+follow_rule-grown-requires c =
     let given = c.requires.0 in (
       its_words given c.args.forward c.loop-passed-test.true c.turn-rule.ensures c.end_of-end.ensures,
       head_below given c.args.forward c.loop-passed-test.true c.turn-rule.ensures c.decode.ensures c.head_of-head.ensures,
@@ -59,9 +27,9 @@ pub loop-passed-preserved : goal.loop-passed-preserved
 loop-passed-preserved c =
     let given = c.requires.0 in
     let forward = c.args.forward in
-    let turn = c.follow_rule.ensures in (
+    let turn = c.follow_rule-grown.ensures in (
       follow_visit given _ _ forward _ c.loop-passed.invariant.0 c.loop-passed-test.true c.turn-rule.ensures
-          c.decode.ensures c.head_of-head.ensures turn c.either-grown.ensures,
+          c.decode.ensures c.head_of-head.ensures turn refl,
       last_next c.head_of-head.result given.begins (well_read _ _ given.read).few_rules
           (its_turn given forward c.loop-passed-test.true c.turn-rule.ensures) c.loop-passed.invariant.1 refl turn,
     )

@@ -1,5 +1,4 @@
 -- The loop keeps `Turns`: the rules before have had their turn; and `LastTurns`: what came behind the bodies of each when it last had it.
-use Prim.Native.Nat.{◌-◌}
 use Rattle.families.specs.inner.Least.{at as family}
 use Rattle.families.specs.inner.Follow.{LastTurns}
 use Rattle.families.proofs.RulePasses.{Turns}
@@ -10,6 +9,3 @@ abbrev pub invariant-loop-passed : goal.invariant-loop-passed
 invariant-loop-passed l =
     Turns (Asks l.lookahead (family l.firsts) l.words) l.sizes.rules l.forward l.initial.follows l.follows l.grown l.passed
     × LastTurns l.lookahead (family l.firsts) l.words l.sizes.rules l.last l.follows
-
-abbrev pub decreases-loop-passed : goal.decreases-loop-passed
-decreases-loop-passed l = l.sizes.rules - l.passed

@@ -5,13 +5,13 @@ use Rattle.table.proofs.ClaimedTwice.{noting_start, noting_turn, noting_end}
 use Rattle.table.proofs.conflicts.claimed_twice.Goals as goal
 
 pub loop-rule-init : goal.loop-rule-init
-loop-rule-init c = (omega arith, noting_start _ _ _ _ c.requires.1)
+loop-rule-init c = noting_start _ _ _ _ c.requires.1
 
 pub loop-rule-preserved : goal.loop-rule-preserved
 loop-rule-preserved c =
     let given = c.requires.0 in
     let low = given.own (c.loop-rule.rule - 1) (omega arith) in
-    (omega arith, noting_turn _ _ c.loop-rule.invariant.1 c.loop-rule-test.true c.loop-rule.invariant.0 (omega (arith, given.allowed)) c.note.ensures)
+    noting_turn _ _ c.loop-rule.invariant (omega arith) (omega arith) (omega (arith, given.allowed)) c.note.ensures
 
 pub returns : goal.returns
-returns c = noting_end _ _ c.loop-rule.invariant.1 c.loop-rule-test.false
+returns c = noting_end _ _ c.loop-rule.invariant (omega arith)

@@ -13,6 +13,3 @@ invariant-loop-column l =
     × (l.column ≤ l.columns)
     × (row_conflict (in_set (column_element l.lookahead l.terminals) l.set.bits) l.nonterminal l.column (l.columns - l.column)
     ≡ row_conflict (in_set (column_element l.lookahead l.terminals) l.set.bits) l.nonterminal 0 (column_count l.lookahead l.terminals))
-
-abbrev pub decreases-loop-column : goal.decreases-loop-column
-decreases-loop-column l = l.columns - l.column

@@ -6,11 +6,11 @@ use Rattle.table.proofs.conflicts.first_entry.Goals as goal
 
 pub returns-in_default : goal.returns-in_default
 returns-in_default c =
-    sym (row_here _ _ c.loop-nonterminal-test.true c.first_column-conflict.ensures c.in_default.not-Absent) ∙ c.loop-nonterminal.invariant.1
+    sym (row_here _ _ c.loop-nonterminal-test.true c.first_column-conflict.ensures c.in_default.not-None) ∙ c.loop-nonterminal.invariant.1
 
 pub loop-nonterminal-preserved : goal.loop-nonterminal-preserved
 loop-nonterminal-preserved c =
-    (omega arith, sym (row_later _ _ c.loop-nonterminal-test.true c.first_column-conflict.ensures c.in-Absent.is) ∙ c.loop-nonterminal.invariant.1)
+    (omega arith, sym (row_later _ _ c.loop-nonterminal-test.true c.first_column-conflict.ensures c.in-None.is) ∙ c.loop-nonterminal.invariant.1)
 
 pub returns : goal.returns
 returns c = sym (rows_none _ _ _ _ c.loop-nonterminal-test.false) ∙ c.loop-nonterminal.invariant.1

@@ -13,6 +13,3 @@ invariant-loop-nonterminal l =
     × (conflict_from (in_sets (column_element l.lookahead l.terminals) l.sets) (column_count l.lookahead l.terminals) l.nonterminal
     (l.nonterminals - l.nonterminal)
     ≡ conflict_from (in_sets (column_element l.lookahead l.terminals) l.sets) (column_count l.lookahead l.terminals) 0 l.nonterminals)
-
-abbrev pub decreases-loop-nonterminal : goal.decreases-loop-nonterminal
-decreases-loop-nonterminal l = l.nonterminals - l.nonterminal

@@ -1,6 +1,4 @@
 -- The loop keeps the chart filled up to the turn of the length.
-use Prim.Native.Nat.{suc, ◌-◌, ◌≤◌}
-use lib.ListN.{length as List·length}
 use Rattle.event.specs.Events.{input_of}
 use Rattle.grammar.specs.Encoding.{grammar_of}
 use Rattle.tabular_promises.specs.inner.Chart.{Long}
@@ -9,7 +7,4 @@ use Rattle.tabular.proofs.filling.fill.Given as goal
 
 abbrev pub invariant-loop-length : goal.invariant-loop-length
 invariant-loop-length l =
-    (l.length ≤ suc (List·length l.events)) × Long l.chart × FilledTo (grammar_of l.words) (input_of l.events) (turn 0 l.length 0) l.chart
-
-abbrev pub decreases-loop-length : goal.decreases-loop-length
-decreases-loop-length l = suc (List·length l.events) - l.length
+    Long l.chart × FilledTo (grammar_of l.words) (input_of l.events) (turn 0 l.length 0) l.chart

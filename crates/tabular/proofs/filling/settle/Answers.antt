@@ -1,5 +1,6 @@
 -- The loop keeps the chart filled up to the turn of the rank.
 use native.Mathlib.Omega.{arith}
+use Rattle.grammar.proofs.WellRead.{well_read}
 use Rattle.tabular_promises.proofs.Charts.{added_right}
 use Rattle.tabular_promises.proofs.Turns.{few, settling_more, settled}
 use Rattle.tabular.proofs.filling.settle.Goals as goal
@@ -10,18 +11,14 @@ derived-found-requires c =
     record {
       rules = given.given.rules;
       ranked = given.given.ranked;
-      low =
-          omega (arith, c.loop-rank-test.true, few given.given);
+      low = omega (arith, few given.given);
       span = given.span;
     }
 
 pub loop-rank-preserved : goal.loop-rank-preserved
-loop-rank-preserved c = (
-  omega (arith, c.loop-rank-test.true),
-  settling_more c.requires c.loop-rank-test.true c.loop-rank.invariant.1 c.derived-found.ensures
-      (added_right record { long = c.loop-rank.invariant.1.long; given = record { span = c.requires.span; few = few c.requires.given } }
-      c.add.ensures),
-)
+loop-rank-preserved c =
+    settling_more c.requires (omega arith) c.loop-rank.invariant c.derived-found.ensures
+    (added_right record { long = c.loop-rank.invariant.long; given = record { span = c.requires.span; few = few c.requires.given } } c.add.ensures)
 
 pub returns : goal.returns
-returns c = settled c.requires c.loop-rank.invariant.0 c.loop-rank-test.false c.loop-rank.invariant.1
+returns c = settled c.requires (omega (arith, (well_read _ _ c.requires.given.rules.read).some_nonterminal)) (omega arith) c.loop-rank.invariant
