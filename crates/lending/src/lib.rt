@@ -2,14 +2,14 @@
 // out in the caller's memory.
 #![tactic(auto)]
 
-ghost use Rattle.std.specs.Prelude.{◌≡◌, List, ℕ, ◌+◌, ◌*◌, ◌++◌, ◌≤◌, ◌<◌, length, drop, replicate, refl};
+ghost use Rattle.std.specs.Prelude.{◌≡◌, List, ℕ, ◌+◌, ◌*◌, ◌<◌, length, replicate, refl};
 ghost use Rattle.grammar.specs.Codes.{no_entry};
 ghost use Rattle.grammar.specs.Limits.{max_table_words};
 ghost use Rattle.grammar.specs.inner.Limits.{max_entries};
 ghost use Rattle.lookahead.specs.declared.Lookahead.{Lookahead};
 ghost use Rattle.lookahead.specs.declared.Lookahead.TheVariants.{One, Two};
 ghost use Rattle.lent_words.specs.inner.Words.{lent_sizes};
-ghost use Rattle.lending.specs.inner.Lending.{table_word_at, word_count, laid, lent_by, SizesGiven, made_up};
+ghost use Rattle.lending.specs.inner.Lending.{table_word_at, word_count, lent_by, SizesGiven, made_up};
 
 use answer::Error;
 use columns::count;
@@ -78,12 +78,10 @@ pub trait TableWord: Copy + Drop {
 
     const LOOKAHEAD: Lookahead;
 
-    // Writes all words of a table in front of what there is.
+    // Writes all words of a table in front of what there is; nothing where there is no room for them.
     fn write_table(table: &mut [Self], lent: &Lent)
-        requires { word_count LOOKAHEAD lent.now.sizes ≤ length table.old }
         ensures { numbers table.new
-            ≡ laid LOOKAHEAD lent.now.sizes lent.now.firsts.now lent.now.follows.now lent.now.entries.now
-            ++ drop (word_count LOOKAHEAD lent.now.sizes) (numbers table.old) };
+            ≡ lent_by LOOKAHEAD lent.now.sizes lent.now.firsts.now lent.now.follows.now lent.now.entries.now (numbers table.old) };
 
     // A number for each word.
     ghost one_each: { (words : List Self) → length (numbers words) ≡ length words };
@@ -99,6 +97,9 @@ impl TableWord for u32 {
     // The words are laid out whole before any is lent back.
     fn write_table(table: &mut [u32], lent: &Lent) {
         let count = lent.word_count(Lookahead::One);
+        if table.len() < count {
+            return;
+        }
         let mut words = [NO_ENTRY; TABLE_WORDS];
         lent.lay_out(&mut words);
         table[..count].copy_from_slice(&words[..count]);
@@ -116,6 +117,9 @@ impl TableWord for u64 {
 
     fn write_table(table: &mut [u64], lent: &Lent) {
         let count = lent.word_count(Lookahead::Two);
+        if table.len() < count {
+            return;
+        }
         for at in 0..count {
             table[at] = lent.word(at);
         }
@@ -141,7 +145,5 @@ pub fn lend<'a, W: TableWord>(
         follows,
         entries,
     };
-    if lent.word_count(W::LOOKAHEAD) <= table.len() {
-        W::write_table(table, &lent);
-    }
+    W::write_table(table, &lent);
 }
