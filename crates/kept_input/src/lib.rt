@@ -1,7 +1,9 @@
 // An input that is kept between calls and grows event by event, with marks to return to.
 #![tactic(auto)]
 
+ghost use Rattle.std.specs.Prelude.{◌≡◌};
 ghost use Rattle.kept_steps.specs.Histories.{Add, Mark, Return};
+ghost use Rattle.kept_marks.specs.Properties.{step_at, step_left};
 ghost use Rattle.kept_input.specs.inner.Whole.{ReadWhole};
 ghost use Rattle.kept_input.specs.Properties.{BeginsEmpty, Steps, Adds};
 
@@ -58,8 +60,33 @@ impl KeptInput {
     }
 }
 
-// Adds an event where the events stand, and writes no other.
+// Adds an event where the events and their progress stand, and writes no other.
 #[tactic(auto, unfolding(kept_steps::specs::Histories::step_fault, kept_steps::specs::Histories::after_step, kept_marks::specs::Stored::progress_of))]
+pub fn push_event(
+    events: &mut [u8; TOKENS],
+    progress: &mut Progress,
+    event: u8,
+) -> Result<(), Error>
+    ensures adds { Adds event events.old progress.old events.new (step_at result progress.new) }
+    ensures left { progress.new ≡ step_left (step_at result progress.new) progress.old }
+{
+    let before = KeptInput {
+        events: *events,
+        progress: *progress,
+    };
+    let now = before.read();
+    if LIMIT <= now.length {
+        return Err(Error::InputFull);
+    }
+    events[now.length as usize] = event;
+    *progress = Progress {
+        length: now.length + 1,
+        ..now
+    };
+    Ok(())
+}
+
+// The same with the progress by value.
 pub fn add_event(
     events: &mut [u8; TOKENS],
     progress: Progress,
@@ -67,17 +94,7 @@ pub fn add_event(
 ) -> Result<Progress, Error>
     ensures { Adds event events.old progress events.new result }
 {
-    let before = KeptInput {
-        events: *events,
-        progress,
-    };
-    let now = before.read();
-    if LIMIT <= now.length {
-        return Err(Error::InputFull);
-    }
-    events[now.length as usize] = event;
-    Ok(Progress {
-        length: now.length + 1,
-        ..now
-    })
+    let mut next = progress;
+    push_event(events, &mut next, event)?;
+    Ok(next)
 }

@@ -22,6 +22,11 @@ abbrev pub step_left : {A : Type 0} → Result A Error → A → A
 step_left (Ok x) before = x
 step_left (Err e) before = before
 
+-- what a step of a value that stands in lent memory gives: where it passes, what stands there afterwards
+abbrev pub step_at : {A : Type 0} → Result (Unit {0}) Error → A → Result A Error
+step_at (Ok u) after = Ok after
+step_at (Err e) after = Err e
+
 -- a step, of any value
 pub record StepsIn (t : Step) (events : List ℕ) (before : Progress) (r : Result Progress Error) (events' : List ℕ) : Type 0 where
   -- refused or passed by the events and marks that the value holds

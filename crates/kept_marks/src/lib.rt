@@ -6,7 +6,7 @@ ghost use Rattle.grammar.specs.Limits.{max_tokens};
 ghost use Rattle.kept_steps.specs.Histories.{empty_input, Mark, Return};
 ghost use Rattle.kept_marks.specs.inner.Stored.{cleared_beyond};
 ghost use Rattle.kept_marks.specs.Stored.{progress_of};
-ghost use Rattle.kept_marks.specs.Properties.{Reads, Moves};
+ghost use Rattle.kept_marks.specs.Properties.{Reads, Moves, step_at, step_left};
 
 use answer::Error;
 use grammar::limits::TOKENS;
@@ -69,9 +69,10 @@ impl Progress {
         Progress { length, marks }
     }
 
-    // Notes the length.
-    pub fn mark(self, mark: u32) -> Result<Progress, Error>
-        ensures { Moves (Mark mark) self result }
+    // Notes the length. The value stays where it stands: in a result, value and error share their bytes, and the compiler takes the marks apart.
+    pub fn note(&mut self, mark: u32) -> Result<(), Error>
+        ensures moves { Moves (Mark mark) self.old (step_at result self.new) }
+        ensures left { self.new ≡ step_left (step_at result self.new) self.old }
     {
         let at = mark as usize;
         if MARKS <= at {
@@ -79,12 +80,14 @@ impl Progress {
         }
         let mut now = self.read();
         now.marks[at] = now.length;
-        Ok(now)
+        *self = now;
+        Ok(())
     }
 
     // Cuts the input where the mark was set.
-    pub fn return_to(self, mark: u32) -> Result<Progress, Error>
-        ensures { Moves (Return mark) self result }
+    pub fn cut(&mut self, mark: u32) -> Result<(), Error>
+        ensures moves { Moves (Return mark) self.old (step_at result self.new) }
+        ensures left { self.new ≡ step_left (step_at result self.new) self.old }
     {
         let at = mark as usize;
         if MARKS <= at {
@@ -96,6 +99,24 @@ impl Progress {
             return Err(Error::MarkNotSet);
         }
         let marks = all_cleared(now.marks, length);
-        Ok(Progress { length, marks })
+        *self = Progress { length, marks };
+        Ok(())
+    }
+
+    // Both steps by value.
+    pub fn mark(self, mark: u32) -> Result<Progress, Error>
+        ensures { Moves (Mark mark) self result }
+    {
+        let mut next = self;
+        next.note(mark)?;
+        Ok(next)
+    }
+
+    pub fn return_to(self, mark: u32) -> Result<Progress, Error>
+        ensures { Moves (Return mark) self result }
+    {
+        let mut next = self;
+        next.cut(mark)?;
+        Ok(next)
     }
 }

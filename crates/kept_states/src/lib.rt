@@ -3,13 +3,14 @@
 
 ghost use Rattle.std.specs.Prelude.{◌≡◌};
 ghost use Rattle.kept_steps.specs.Histories.{Mark, Return};
+ghost use Rattle.kept_marks.specs.Properties.{step_at};
 ghost use Rattle.kept_input.specs.Held.{kept_input};
 ghost use Rattle.embed_promises.specs.Kept.{state_of, progress_in, AddExported, MoveExported};
 ghost use Rattle.embed_promises.specs.inner.Kept.{StateRead, WrittenBack};
 
 use answer::{Answer, Error};
 use grammar::limits::TOKENS;
-use kept_input::{KeptInput, add_event};
+use kept_input::{KeptInput, push_event};
 use kept_marks::{MARKS, Progress};
 use packing::{PASSED, pack};
 
@@ -45,11 +46,11 @@ fn state_of(progress: Progress) -> [u16; STATE]
 
 // Writes the state that a step leaves, unless it is refused, and gives its answer packed.
 #[tactic(auto, unfolding(embed_promises::specs::Packing::packed))]
-fn write_back(step: Result<Progress, Error>, state: &mut [u16; STATE]) -> u64
-    ensures { WrittenBack step state.old result state.new }
+fn write_back(step: Result<(), Error>, next: Progress, state: &mut [u16; STATE]) -> u64
+    ensures { WrittenBack (step_at step next) state.old result state.new }
 {
     match step {
-        Ok(next) => {
+        Ok(()) => {
             *state = state_of(next);
             PASSED
         }
@@ -61,25 +62,25 @@ fn write_back(step: Result<Progress, Error>, state: &mut [u16; STATE]) -> u64
 pub fn add_event_in(events: &mut [u8; TOKENS], state: &mut [u16; STATE], event: u8) -> u64
     ensures { AddExported event events.old state.old result events.new state.new }
 {
-    let progress = progress_in(*state);
-    let step = add_event(events, progress, event);
-    write_back(step, state)
+    let mut progress = progress_in(*state);
+    let step = push_event(events, &mut progress, event);
+    write_back(step, progress, state)
 }
 
 pub fn mark_in(state: &mut [u16; STATE], mark: u32) -> u64
     ensures { MoveExported (Mark mark) state.old result state.new }
 {
-    let progress = progress_in(*state);
-    let step = progress.mark(mark);
-    write_back(step, state)
+    let mut progress = progress_in(*state);
+    let step = progress.note(mark);
+    write_back(step, progress, state)
 }
 
 pub fn return_in(state: &mut [u16; STATE], mark: u32) -> u64
     ensures { MoveExported (Return mark) state.old result state.new }
 {
-    let progress = progress_in(*state);
-    let step = progress.return_to(mark);
-    write_back(step, state)
+    let mut progress = progress_in(*state);
+    let step = progress.cut(mark);
+    write_back(step, progress, state)
 }
 
 // The log as it stands there.

@@ -5,4 +5,4 @@ use Rattle.kept_states.proofs.add_event_in.Goals as goal
 pub returns : goal.returns
 returns c =
     let back = c.write_back.ensures in
-    add_exported _ c.progress_in-progress.ensures c.add_event-step.ensures back.packs back.left
+    add_exported _ c.progress_in-progress.ensures c.push_event-step.ensures.adds back.packs back.left

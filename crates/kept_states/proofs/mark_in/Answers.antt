@@ -5,4 +5,4 @@ use Rattle.kept_states.proofs.mark_in.Goals as goal
 pub returns : goal.returns
 returns c =
     let back = c.write_back.ensures in
-    move_exported _ c.progress_in-progress.ensures c.mark-step.ensures back.packs back.left
+    move_exported _ c.progress_in-progress.ensures c.note-step.ensures.moves back.packs back.left

@@ -5,4 +5,4 @@ use Rattle.kept_states.proofs.return_in.Goals as goal
 pub returns : goal.returns
 returns c =
     let back = c.write_back.ensures in
-    move_exported _ c.progress_in-progress.ensures c.return_to-step.ensures back.packs back.left
+    move_exported _ c.progress_in-progress.ensures c.cut-step.ensures.moves back.packs back.left

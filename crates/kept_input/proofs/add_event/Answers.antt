@@ -1,9 +1,0 @@
--- A full input, or one event more.
-use native.Mathlib.Omega.{arith}
-use Rattle.kept_input.proofs.Adding.{add_done}
-use Rattle.kept_input.proofs.add_event.Goals as goal
-
-pub returns : goal.returns
-returns c =
-    let reads = c.read-now.ensures in
-    add_done c.args.events.now c.args.progress reads.whole reads.eight reads.reads c.args.event (omega arith)
