@@ -72,6 +72,24 @@ module _ (z : Sizes) (input table memo : List ℕ) where
         ∙ label_at_lem A i a h (omega (arith, g.short)) ∙ rw (le-ltb max_tokens (length input) g.short);
   }
 
+-- of an input that is too long no call has a word
+pub labels_none : (z : Sizes) (events table memo : List ℕ) → max_tokens < length events
+    → replicate max_memo_entries 0 ≡ labels_of z (input_of events) table memo
+unfolding labels_of label_at
+labels_none z events table memo h =
+    listed_by max_memo_entries (label_at z (input_of events) table memo) (replicate max_memo_entries 0) (length-replicate {A = ℕ} max_memo_entries 0)
+    (λ x l. get_d_zeros max_memo_entries x ∙ sym (none x))
+  where
+    either_zero : (a b : Bool) → ◌≡◌ {A = ℕ} (choose a (choose b 0 0) 0) 0
+    either_zero true true = refl
+    either_zero true false = refl
+    either_zero false b = refl
+
+    none : (x : ℕ) → label_at z (input_of events) table memo x ≡ 0
+    none x =
+        rw (← label_long z events table memo (x / max_places) (x % max_places) h)
+        (either_zero (ltb (x / max_places) z.nonterminals) (ltb (length (input_of events)) (x % max_places)))
+
 module _ {z : Sizes} (events : List ℕ) {table memo : List ℕ} where
   -- one label after the other
   pub labels_start : LabelledBelow z (input_of events) table memo 0 (replicate max_memo_entries 0)

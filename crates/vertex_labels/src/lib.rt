@@ -42,6 +42,10 @@ fn label_row(
 fn labels_by(sizes: Sizes, events: &[u8], table: &[u32], memo: &[u16]) -> [u32; MEMO_ENTRIES]
     ensures { result ≡ labels_of sizes (input_of events.now) table.now memo.now }
 {
+    // An input that is too long has no words. Told before the loop; else the compiler keeps the words in two arrays.
+    if TOKENS < events.len() {
+        return [0; MEMO_ENTRIES];
+    }
     let mut labels = [0u32; MEMO_ENTRIES];
     let rows = sizes.nonterminals.min(NONTERMINALS) as usize;
     for nonterminal in 0..rows {

@@ -3,8 +3,11 @@ use mathlib.Core.Path.{◌≡◌}
 use Prim.Native.Nat.{◌+◌, ◌*◌}
 use native.Mathlib.Omega.{arith}
 use Rattle.grammar.specs.Limits.{max_places}
-use Rattle.tree_writer_promises.proofs.Labelling.{labels_start, labels_all}
+use Rattle.tree_writer_promises.proofs.Labelling.{labels_start, labels_none, labels_all}
 use Rattle.vertex_labels.proofs.labels_by.Goals as goal
+
+pub returns-then-events-gt-TOKENS : goal.returns-then-events-gt-TOKENS
+returns-then-events-gt-TOKENS c = labels_none c.args.sizes c.args.events.now c.args.table.now c.args.memo.now c.if-events-gt-TOKENS.true
 
 pub loop-nonterminal-init : goal.loop-nonterminal-init
 loop-nonterminal-init c = labels_start c.args.events.now
