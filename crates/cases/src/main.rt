@@ -4,18 +4,30 @@
 
 ghost use Rattle.std.specs.Prelude.{◌≡◌, ◌≤◌, length, take};
 
-use file_reading::read_file;
+use file_reading::read_full;
 use file_words::load;
 use grammar::limits::{MEMO_ENTRIES, PLACES, TABLE_WORDS, TABLE_WORDS_OF_TWO, TOKENS, WORDS};
 use judgement_text::put_judgement;
 use recognizer::{judge_costliest, judge_two};
 use report_texts::{FILE_BYTES, INPUT_BYTES, SHEET_ROOM};
+use std::fs;
 use std::rt::Files;
 use text::Output;
 use tree_writer::judge_tree;
 
 // Room for a line.
 const LINE: usize = 32;
+
+// The start of a file; one that cannot be opened is read as no words.
+fn read(files: &impl Files, path: &str, card: &mut [u8]) -> usize
+    ensures within { result ≤ length card.new }
+    ensures taken { result ≡ length (take result card.new) }
+{
+    let Ok(mut file) = fs::open(files, path) else {
+        return 0;
+    };
+    read_full(&mut file, card).bytes
+}
 
 // Where the first line ends: behind its line feed.
 fn first_line(text: &[u8]) -> usize
@@ -41,7 +53,7 @@ fn name(rt: &impl Print, path: &str) {
 fn checked(rt: &(impl Files + Print), path: &str) {
     name(rt, path);
     let mut card = [0u8; FILE_BYTES];
-    let n = read_file(rt, path, &mut card);
+    let n = read(rt, path, &mut card);
     let mut text = [0u8; SHEET_ROOM];
     let length = report::sheet(&card[..n], &mut text);
     let _ = rt.write_all(&text[..length]);
@@ -50,7 +62,7 @@ fn checked(rt: &(impl Files + Print), path: &str) {
 // The verdict on an input, by a grammar.
 fn judged(rt: &(impl Files + Print), path: &str, log: &[u8]) {
     let mut card = [0u8; FILE_BYTES];
-    let n = read_file(rt, path, &mut card);
+    let n = read(rt, path, &mut card);
     let mut text = [0u8; LINE];
     let length = report::judgement(&card[..n], log, &mut text);
     write_line(rt, &text[..length]);
@@ -125,7 +137,7 @@ fn vertices(rt: &impl Print, count: usize) {
 // The verdict on an input, by a grammar, with two tokens of lookahead.
 fn judged_by_two(rt: &(impl Files + Print), path: &str, log: &[u8], table: &mut [u64]) {
     let mut card = [0u8; FILE_BYTES];
-    let n = read_file(rt, path, &mut card);
+    let n = read(rt, path, &mut card);
     let mut words = [0u32; WORDS];
     let loaded = load(&card[..n], &mut words);
     let Some(count) = loaded else {
@@ -172,7 +184,7 @@ fn limits_of_two(rt: &(impl Files + Print)) {
 fn costliest(rt: &(impl Files + Print), path: &str, tokens: usize, log: &mut [u8]) {
     name(rt, path);
     let mut card = [0u8; FILE_BYTES];
-    let n = read_file(rt, path, &mut card);
+    let n = read(rt, path, &mut card);
     let mut words = [0u32; WORDS];
     let loaded = load(&card[..n], &mut words);
     let Some(count) = loaded else {
@@ -202,7 +214,7 @@ fn limits_of_searching(rt: &(impl Files + Print)) {
 fn deepest_tree(rt: &(impl Files + Print), path: &str) {
     name(rt, path);
     let mut card = [0u8; FILE_BYTES];
-    let n = read_file(rt, path, &mut card);
+    let n = read(rt, path, &mut card);
     let mut words = [0u32; WORDS];
     let loaded = load(&card[..n], &mut words);
     let Some(count) = loaded else {
