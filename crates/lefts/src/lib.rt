@@ -68,7 +68,13 @@ fn inside_left(word: Word, left: Left, firsts: &[u64; SETS], lookahead: Lookahea
             body: symbol_left(symbol, body, firsts, lookahead),
             rule,
         },
-        _ => ended(body, rule),
+        // A word of each kind has an arm, so that an edit can forget that of must-nots.
+        Word::Positive => ended(body, rule),
+        Word::Negative => ended(body, rule),
+        Word::End => ended(body, rule),
+        Word::Rule(_) => ended(body, rule),
+        Word::Heading { .. } => ended(body, rule),
+        Word::Invalid => ended(body, rule),
     }
 }
 

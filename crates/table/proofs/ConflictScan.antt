@@ -65,6 +65,9 @@ module _ (p : ℕ → ℕ → Bool) (columns : ℕ) {A n : ℕ} (h : A < n) {r :
   unfolding conflict_from
   row_later e = rw (row_less, ← row, e, add-one A)
 
+pub rows_all : (p : ℕ → ℕ → Bool) (columns n : ℕ) → conflict_from p columns 0 (n - 0) ≡ conflict_from p columns 0 n
+rows_all p columns n = let e : n - 0 ≡ n = omega arith in rw e
+
 pub rows_none : (p : ℕ → ℕ → Bool) (columns A n : ℕ) → n ≤ A → conflict_from p columns A (n - A) ≡ None
 unfolding conflict_from
 rows_none p columns A n h = let e : n - A ≡ 0 = omega arith in rw e
