@@ -4,7 +4,12 @@
 ghost use Rattle.std.specs.Prelude.{◌≡◌, ◌≤◌, ◌<◌, false, length, take};
 ghost use Rattle.std.specs.Io.KnownBytes.{Consumes, IsAtEnd};
 
+use std::fs;
 use std::io::Read;
+use std::rt::Files;
+
+#[cfg(test)]
+mod tests;
 
 // How many bytes were read, and whether a read failed before the buffer was full or the input at its end.
 #[derive(Clone, Copy)]
@@ -39,4 +44,15 @@ pub fn read_full<R: Read>(reader: &mut R, buffer: &mut [u8]) -> Filled
         bytes: done,
         failed: false,
     }
+}
+
+// The start of a file; one that cannot be opened has no bytes.
+pub fn read_file(files: &impl Files, path: &str, buffer: &mut [u8]) -> usize
+    ensures within { result ≤ length buffer.new }
+    ensures taken { result ≡ length (take result buffer.new) }
+{
+    let Ok(mut file) = fs::open(files, path) else {
+        return 0;
+    };
+    read_full(&mut file, buffer).bytes
 }
