@@ -1,4 +1,4 @@
-// What the functions of this crate read of files that a test writes.
+// What `read_file` reads of a file that the test has written, and of one that is not there.
 use crate::read_file;
 use std::fs;
 use std::test::Fail;
